@@ -1,0 +1,19 @@
+//! What a specification is: its tokens, its syntax, and the worlds that it is about.
+#![tactic(auto)]
+
+mod list;
+mod no_memory;
+mod syntax;
+mod text;
+mod token;
+mod world;
+
+pub use list::List;
+pub use no_memory::NoMemory;
+pub use syntax::{
+    Amount, Answer, Body, Bus, Case, Cell, Decl, Guard, Index, Initial, Mention, Operand, Phrase,
+    Relation, Row, SendCase, Signed, Simple, Spec, StateDecl, Sum, Term, Transition, Value,
+};
+pub use text::Text;
+pub use token::{MARKS, Mark, Placed, Token, WORDS, Word};
+pub use world::{Path, Step, World};
