@@ -1,7 +1,14 @@
+pub mod Characters
 pub mod Globals
+pub mod Grammar
+pub mod Layout
+pub mod Lexing
 pub mod Marks
 pub mod Names
+pub mod Places
 pub mod Relations
 pub mod Tables
+pub mod Tokens
+pub mod WellFormed
 pub mod Words
 pub mod formers

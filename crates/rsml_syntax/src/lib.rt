@@ -1,6 +1,7 @@
 //! What a specification is: its tokens, its syntax, and the worlds that it is about.
 #![tactic(auto)]
 
+mod edition;
 mod list;
 mod no_memory;
 mod syntax;
@@ -8,6 +9,7 @@ mod text;
 mod token;
 mod world;
 
+pub use edition::Edition;
 pub use list::List;
 pub use no_memory::NoMemory;
 pub use syntax::{
