@@ -7,6 +7,7 @@ pub mod Marks
 pub mod Names
 pub mod Places
 pub mod Relations
+pub mod Scanning
 pub mod Tables
 pub mod Tokens
 pub mod WellFormed
