@@ -1,3 +1,4 @@
 pub mod CharacterLemmas
 pub mod WordLemmas
 pub mod FrontLemmas
+pub mod ScanLemmas

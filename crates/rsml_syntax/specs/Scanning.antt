@@ -1,12 +1,14 @@
 -- The next token of some characters, as a function of them.
-use Rattle.std.specs.Prelude.{ℕ, Bool, true, false, List, [], ◌∷◌, length, drop, Option, Some, None, if◌then◌else◌, nat_le, ◌==◌}
+use Rattle.std.specs.Prelude.{◌≡◌, ℕ, ◌+◌, Bool, true, false, List, [], ◌∷◌, length, drop, Option, Some, None, if◌then◌else◌, nat_le, ◌==◌}
 use Rattle.std.specs.Str.{encode_utf8_all}
 use Rattle.rsml_syntax.specs.declared.edition.Edition.{Edition}
+use Rattle.rsml_syntax.specs.declared.token.Placed.{Placed}
 use Rattle.rsml_syntax.specs.declared.token.Word.{Word}
 use Rattle.rsml_syntax.specs.declared.token.Mark.{Mark}
 use Rattle.rsml_syntax.specs.declared.token.Token.{Token}
 use Rattle.rsml_syntax.specs.declared.token.Token.TheVariants as token
 use Rattle.rsml_syntax.specs.Characters.{is_white, is_start, is_continuing, is_digit, digits_at, digits_value}
+use Rattle.rsml_syntax.specs.Lexing.{Scans, bytes_of}
 use Rattle.rsml_syntax.specs.Marks as marks
 use Rattle.rsml_syntax.specs.Marks.{mark_at}
 use Rattle.rsml_syntax.specs.Names.{Name}
@@ -67,3 +69,17 @@ front e (c ∷ cs) =
     if is_start c then front_named e (c ∷ cs)
     else if is_digit c then front_number (c ∷ cs)
     else front_marked (mark_at (c ∷ cs)) (c ∷ cs)
+
+-- what stands after the blanks at the front
+abbrev pub next : Edition → List ℕ → Front
+next e cs = front e (after_blanks cs)
+
+-- after some tokens this is what stands next, at this offset
+pub record Stuck (e : Edition) (cs : List ℕ) (at : ℕ) (f : Front) : Type 0 where
+  pub tokens : List Placed
+  pub rest : List ℕ
+  pub ahead : List ℕ
+  pub scanned : Scans e 0 cs tokens rest
+  pub is : next e rest ≡ f
+  pub blanks : after_blanks rest ≡ ahead
+  pub offset : at + bytes_of ahead ≡ bytes_of cs
