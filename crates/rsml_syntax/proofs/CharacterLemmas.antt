@@ -11,7 +11,7 @@ use Rattle.rsml_syntax.specs.Scanning.{after_blanks, after_comment, passing, aft
 use Rattle.rsml_syntax.specs.Tokens.{first_is}
 
 -- either side of an `||`
-either : (a b : Bool) → (a || b) ≡ true → (a ≡ true) ⊎ (b ≡ true)
+pub either : (a b : Bool) → (a || b) ≡ true → (a ≡ true) ⊎ (b ≡ true)
 either true b h = inl refl
 either false b h = inr h
 

@@ -2,3 +2,4 @@ pub mod CharacterLemmas
 pub mod WordLemmas
 pub mod FrontLemmas
 pub mod ScanLemmas
+pub mod LayoutLemmas

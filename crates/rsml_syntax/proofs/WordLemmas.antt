@@ -3,7 +3,7 @@ use Rattle.std.proofs.Common.{◌≡◌, ℕ, ◌<◌, ◌≤◌, Bool, true, fa
 use Rattle.std.specs.Prelude.{if◌then◌else◌}
 use Rattle.std.specs.Char.{is_ascii_alphabetic}
 use Rattle.std.specs.List.{list_all, list_any, starts_with}
-use Rattle.std.specs.Str.{encode_utf8_all, bytes_eq}
+use Rattle.std.specs.Str.{encode_utf8_all, all_scalars, bytes_eq}
 use Rattle.std.specs.Cmp.Lexicographic.{same_text, pointwise}
 use Rattle.std.proofs.lemmas.Bool.Decides.{nat_tests}
 use Rattle.std.proofs.lemmas.Option.{same_Some}
@@ -83,41 +83,42 @@ pub record IsSpelled (w : Word) : Type 0 where
   pub again : word_of (words.spelling w) ≡ Some w
   pub bytes : encode_utf8_all (words.spelling w) ≡ words.spelling w
   pub letters : list_all is_ascii_alphabetic (words.spelling w) ≡ true
+  pub scalars : all_scalars (words.spelling w) ≡ true
   pub some : nat_lt 0 (length (words.spelling w)) ≡ true
 
 pub word_spelled : (w : Word) → IsSpelled w
 unfolding word_of words.spelling encode
-word_spelled word.All = record { again = refl; bytes = refl; letters = refl; some = refl }
-word_spelled word.Always = record { again = refl; bytes = refl; letters = refl; some = refl }
-word_spelled word.Array = record { again = refl; bytes = refl; letters = refl; some = refl }
-word_spelled word.Bus = record { again = refl; bytes = refl; letters = refl; some = refl }
-word_spelled word.Constant = record { again = refl; bytes = refl; letters = refl; some = refl }
-word_spelled word.Default = record { again = refl; bytes = refl; letters = refl; some = refl }
-word_spelled word.Enumeration = record { again = refl; bytes = refl; letters = refl; some = refl }
-word_spelled word.Event = record { again = refl; bytes = refl; letters = refl; some = refl }
-word_spelled word.Every = record { again = refl; bytes = refl; letters = refl; some = refl }
-word_spelled word.Function = record { again = refl; bytes = refl; letters = refl; some = refl }
-word_spelled word.In = record { again = refl; bytes = refl; letters = refl; some = refl }
-word_spelled word.Input = record { again = refl; bytes = refl; letters = refl; some = refl }
-word_spelled word.Macro = record { again = refl; bytes = refl; letters = refl; some = refl }
-word_spelled word.Move = record { again = refl; bytes = refl; letters = refl; some = refl }
-word_spelled word.Of = record { again = refl; bytes = refl; letters = refl; some = refl }
-word_spelled word.On = record { again = refl; bytes = refl; letters = refl; some = refl }
-word_spelled word.One = record { again = refl; bytes = refl; letters = refl; some = refl }
-word_spelled word.Previous = record { again = refl; bytes = refl; letters = refl; some = refl }
-word_spelled word.Quiet = record { again = refl; bytes = refl; letters = refl; some = refl }
-word_spelled word.Raise = record { again = refl; bytes = refl; letters = refl; some = refl }
-word_spelled word.Range = record { again = refl; bytes = refl; letters = refl; some = refl }
-word_spelled word.Receive = record { again = refl; bytes = refl; letters = refl; some = refl }
-word_spelled word.Send = record { again = refl; bytes = refl; letters = refl; some = refl }
-word_spelled word.Any = record { again = refl; bytes = refl; letters = refl; some = refl }
-word_spelled word.Specification = record { again = refl; bytes = refl; letters = refl; some = refl }
-word_spelled word.State = record { again = refl; bytes = refl; letters = refl; some = refl }
-word_spelled word.Stay = record { again = refl; bytes = refl; letters = refl; some = refl }
-word_spelled word.This = record { again = refl; bytes = refl; letters = refl; some = refl }
-word_spelled word.When = record { again = refl; bytes = refl; letters = refl; some = refl }
-word_spelled word.T = record { again = refl; bytes = refl; letters = refl; some = refl }
-word_spelled word.F = record { again = refl; bytes = refl; letters = refl; some = refl }
+word_spelled word.All = record { again = refl; bytes = refl; letters = refl; scalars = refl; some = refl }
+word_spelled word.Always = record { again = refl; bytes = refl; letters = refl; scalars = refl; some = refl }
+word_spelled word.Array = record { again = refl; bytes = refl; letters = refl; scalars = refl; some = refl }
+word_spelled word.Bus = record { again = refl; bytes = refl; letters = refl; scalars = refl; some = refl }
+word_spelled word.Constant = record { again = refl; bytes = refl; letters = refl; scalars = refl; some = refl }
+word_spelled word.Default = record { again = refl; bytes = refl; letters = refl; scalars = refl; some = refl }
+word_spelled word.Enumeration = record { again = refl; bytes = refl; letters = refl; scalars = refl; some = refl }
+word_spelled word.Event = record { again = refl; bytes = refl; letters = refl; scalars = refl; some = refl }
+word_spelled word.Every = record { again = refl; bytes = refl; letters = refl; scalars = refl; some = refl }
+word_spelled word.Function = record { again = refl; bytes = refl; letters = refl; scalars = refl; some = refl }
+word_spelled word.In = record { again = refl; bytes = refl; letters = refl; scalars = refl; some = refl }
+word_spelled word.Input = record { again = refl; bytes = refl; letters = refl; scalars = refl; some = refl }
+word_spelled word.Macro = record { again = refl; bytes = refl; letters = refl; scalars = refl; some = refl }
+word_spelled word.Move = record { again = refl; bytes = refl; letters = refl; scalars = refl; some = refl }
+word_spelled word.Of = record { again = refl; bytes = refl; letters = refl; scalars = refl; some = refl }
+word_spelled word.On = record { again = refl; bytes = refl; letters = refl; scalars = refl; some = refl }
+word_spelled word.One = record { again = refl; bytes = refl; letters = refl; scalars = refl; some = refl }
+word_spelled word.Previous = record { again = refl; bytes = refl; letters = refl; scalars = refl; some = refl }
+word_spelled word.Quiet = record { again = refl; bytes = refl; letters = refl; scalars = refl; some = refl }
+word_spelled word.Raise = record { again = refl; bytes = refl; letters = refl; scalars = refl; some = refl }
+word_spelled word.Range = record { again = refl; bytes = refl; letters = refl; scalars = refl; some = refl }
+word_spelled word.Receive = record { again = refl; bytes = refl; letters = refl; scalars = refl; some = refl }
+word_spelled word.Send = record { again = refl; bytes = refl; letters = refl; scalars = refl; some = refl }
+word_spelled word.Any = record { again = refl; bytes = refl; letters = refl; scalars = refl; some = refl }
+word_spelled word.Specification = record { again = refl; bytes = refl; letters = refl; scalars = refl; some = refl }
+word_spelled word.State = record { again = refl; bytes = refl; letters = refl; scalars = refl; some = refl }
+word_spelled word.Stay = record { again = refl; bytes = refl; letters = refl; scalars = refl; some = refl }
+word_spelled word.This = record { again = refl; bytes = refl; letters = refl; scalars = refl; some = refl }
+word_spelled word.When = record { again = refl; bytes = refl; letters = refl; scalars = refl; some = refl }
+word_spelled word.T = record { again = refl; bytes = refl; letters = refl; scalars = refl; some = refl }
+word_spelled word.F = record { again = refl; bytes = refl; letters = refl; scalars = refl; some = refl }
 
 letters_continue : (cs : List ℕ) → list_all is_ascii_alphabetic cs ≡ true → list_all is_continuing cs ≡ true
 letters_continue [] h = refl
@@ -215,31 +216,32 @@ pub record IsMarked (m : Mark) : Type 0 where
   pub no_digit : is_digit head ≡ false
   pub no_blank : (head == 35 || is_white head) ≡ false
   pub bytes : encode_utf8_all (marks.spelling m) ≡ marks.spelling m
+  pub scalars : all_scalars (marks.spelling m) ≡ true
   pub short : (length (marks.spelling m) ≡ 1) ⊎ (length (marks.spelling m) ≡ 2)
 
 pub mark_spelled : (m : Mark) → IsMarked m
 unfolding marks.spelling encode
-mark_spelled mark.Semicolon = record { head = 59; tail = []; parts = refl; no_name = no_start 59 (lit< tt) refl refl; no_digit = refl; no_blank = refl; bytes = refl; short = inl refl }
-mark_spelled mark.OpenBrace = record { head = 123; tail = []; parts = refl; no_name = no_start 123 (lit< tt) refl refl; no_digit = refl; no_blank = refl; bytes = refl; short = inl refl }
-mark_spelled mark.CloseBrace = record { head = 125; tail = []; parts = refl; no_name = no_start 125 (lit< tt) refl refl; no_digit = refl; no_blank = refl; bytes = refl; short = inl refl }
-mark_spelled mark.Comma = record { head = 44; tail = []; parts = refl; no_name = no_start 44 (lit< tt) refl refl; no_digit = refl; no_blank = refl; bytes = refl; short = inl refl }
-mark_spelled mark.DotDot = record { head = 46; tail = 46 ∷ []; parts = refl; no_name = no_start 46 (lit< tt) refl refl; no_digit = refl; no_blank = refl; bytes = refl; short = inr refl }
-mark_spelled mark.Dot = record { head = 46; tail = []; parts = refl; no_name = no_start 46 (lit< tt) refl refl; no_digit = refl; no_blank = refl; bytes = refl; short = inl refl }
-mark_spelled mark.Equal = record { head = 61; tail = []; parts = refl; no_name = no_start 61 (lit< tt) refl refl; no_digit = refl; no_blank = refl; bytes = refl; short = inl refl }
-mark_spelled mark.NotEqual = record { head = 33; tail = 61 ∷ []; parts = refl; no_name = no_start 33 (lit< tt) refl refl; no_digit = refl; no_blank = refl; bytes = refl; short = inr refl }
-mark_spelled mark.Less = record { head = 60; tail = []; parts = refl; no_name = no_start 60 (lit< tt) refl refl; no_digit = refl; no_blank = refl; bytes = refl; short = inl refl }
-mark_spelled mark.LessEqual = record { head = 60; tail = 61 ∷ []; parts = refl; no_name = no_start 60 (lit< tt) refl refl; no_digit = refl; no_blank = refl; bytes = refl; short = inr refl }
-mark_spelled mark.Greater = record { head = 62; tail = []; parts = refl; no_name = no_start 62 (lit< tt) refl refl; no_digit = refl; no_blank = refl; bytes = refl; short = inl refl }
-mark_spelled mark.GreaterEqual = record { head = 62; tail = 61 ∷ []; parts = refl; no_name = no_start 62 (lit< tt) refl refl; no_digit = refl; no_blank = refl; bytes = refl; short = inr refl }
-mark_spelled mark.OpenBracket = record { head = 91; tail = []; parts = refl; no_name = no_start 91 (lit< tt) refl refl; no_digit = refl; no_blank = refl; bytes = refl; short = inl refl }
-mark_spelled mark.CloseBracket = record { head = 93; tail = []; parts = refl; no_name = no_start 93 (lit< tt) refl refl; no_digit = refl; no_blank = refl; bytes = refl; short = inl refl }
-mark_spelled mark.OpenParen = record { head = 40; tail = []; parts = refl; no_name = no_start 40 (lit< tt) refl refl; no_digit = refl; no_blank = refl; bytes = refl; short = inl refl }
-mark_spelled mark.CloseParen = record { head = 41; tail = []; parts = refl; no_name = no_start 41 (lit< tt) refl refl; no_digit = refl; no_blank = refl; bytes = refl; short = inl refl }
-mark_spelled mark.Colon = record { head = 58; tail = []; parts = refl; no_name = no_start 58 (lit< tt) refl refl; no_digit = refl; no_blank = refl; bytes = refl; short = inl refl }
-mark_spelled mark.Arrow = record { head = 45; tail = 62 ∷ []; parts = refl; no_name = no_start 45 (lit< tt) refl refl; no_digit = refl; no_blank = refl; bytes = refl; short = inr refl }
-mark_spelled mark.Minus = record { head = 45; tail = []; parts = refl; no_name = no_start 45 (lit< tt) refl refl; no_digit = refl; no_blank = refl; bytes = refl; short = inl refl }
-mark_spelled mark.Plus = record { head = 43; tail = []; parts = refl; no_name = no_start 43 (lit< tt) refl refl; no_digit = refl; no_blank = refl; bytes = refl; short = inl refl }
-mark_spelled mark.Bar = record { head = 124; tail = []; parts = refl; no_name = no_start 124 (lit< tt) refl refl; no_digit = refl; no_blank = refl; bytes = refl; short = inl refl }
+mark_spelled mark.Semicolon = record { head = 59; tail = []; parts = refl; no_name = no_start 59 (lit< tt) refl refl; no_digit = refl; no_blank = refl; bytes = refl; scalars = refl; short = inl refl }
+mark_spelled mark.OpenBrace = record { head = 123; tail = []; parts = refl; no_name = no_start 123 (lit< tt) refl refl; no_digit = refl; no_blank = refl; bytes = refl; scalars = refl; short = inl refl }
+mark_spelled mark.CloseBrace = record { head = 125; tail = []; parts = refl; no_name = no_start 125 (lit< tt) refl refl; no_digit = refl; no_blank = refl; bytes = refl; scalars = refl; short = inl refl }
+mark_spelled mark.Comma = record { head = 44; tail = []; parts = refl; no_name = no_start 44 (lit< tt) refl refl; no_digit = refl; no_blank = refl; bytes = refl; scalars = refl; short = inl refl }
+mark_spelled mark.DotDot = record { head = 46; tail = 46 ∷ []; parts = refl; no_name = no_start 46 (lit< tt) refl refl; no_digit = refl; no_blank = refl; bytes = refl; scalars = refl; short = inr refl }
+mark_spelled mark.Dot = record { head = 46; tail = []; parts = refl; no_name = no_start 46 (lit< tt) refl refl; no_digit = refl; no_blank = refl; bytes = refl; scalars = refl; short = inl refl }
+mark_spelled mark.Equal = record { head = 61; tail = []; parts = refl; no_name = no_start 61 (lit< tt) refl refl; no_digit = refl; no_blank = refl; bytes = refl; scalars = refl; short = inl refl }
+mark_spelled mark.NotEqual = record { head = 33; tail = 61 ∷ []; parts = refl; no_name = no_start 33 (lit< tt) refl refl; no_digit = refl; no_blank = refl; bytes = refl; scalars = refl; short = inr refl }
+mark_spelled mark.Less = record { head = 60; tail = []; parts = refl; no_name = no_start 60 (lit< tt) refl refl; no_digit = refl; no_blank = refl; bytes = refl; scalars = refl; short = inl refl }
+mark_spelled mark.LessEqual = record { head = 60; tail = 61 ∷ []; parts = refl; no_name = no_start 60 (lit< tt) refl refl; no_digit = refl; no_blank = refl; bytes = refl; scalars = refl; short = inr refl }
+mark_spelled mark.Greater = record { head = 62; tail = []; parts = refl; no_name = no_start 62 (lit< tt) refl refl; no_digit = refl; no_blank = refl; bytes = refl; scalars = refl; short = inl refl }
+mark_spelled mark.GreaterEqual = record { head = 62; tail = 61 ∷ []; parts = refl; no_name = no_start 62 (lit< tt) refl refl; no_digit = refl; no_blank = refl; bytes = refl; scalars = refl; short = inr refl }
+mark_spelled mark.OpenBracket = record { head = 91; tail = []; parts = refl; no_name = no_start 91 (lit< tt) refl refl; no_digit = refl; no_blank = refl; bytes = refl; scalars = refl; short = inl refl }
+mark_spelled mark.CloseBracket = record { head = 93; tail = []; parts = refl; no_name = no_start 93 (lit< tt) refl refl; no_digit = refl; no_blank = refl; bytes = refl; scalars = refl; short = inl refl }
+mark_spelled mark.OpenParen = record { head = 40; tail = []; parts = refl; no_name = no_start 40 (lit< tt) refl refl; no_digit = refl; no_blank = refl; bytes = refl; scalars = refl; short = inl refl }
+mark_spelled mark.CloseParen = record { head = 41; tail = []; parts = refl; no_name = no_start 41 (lit< tt) refl refl; no_digit = refl; no_blank = refl; bytes = refl; scalars = refl; short = inl refl }
+mark_spelled mark.Colon = record { head = 58; tail = []; parts = refl; no_name = no_start 58 (lit< tt) refl refl; no_digit = refl; no_blank = refl; bytes = refl; scalars = refl; short = inl refl }
+mark_spelled mark.Arrow = record { head = 45; tail = 62 ∷ []; parts = refl; no_name = no_start 45 (lit< tt) refl refl; no_digit = refl; no_blank = refl; bytes = refl; scalars = refl; short = inr refl }
+mark_spelled mark.Minus = record { head = 45; tail = []; parts = refl; no_name = no_start 45 (lit< tt) refl refl; no_digit = refl; no_blank = refl; bytes = refl; scalars = refl; short = inl refl }
+mark_spelled mark.Plus = record { head = 43; tail = []; parts = refl; no_name = no_start 43 (lit< tt) refl refl; no_digit = refl; no_blank = refl; bytes = refl; scalars = refl; short = inl refl }
+mark_spelled mark.Bar = record { head = 124; tail = []; parts = refl; no_name = no_start 124 (lit< tt) refl refl; no_digit = refl; no_blank = refl; bytes = refl; scalars = refl; short = inl refl }
 
 pub mark_found : (cs : List ℕ) (m : Mark) → mark_at cs ≡ Some m → cs ≡ marks.spelling m ++ drop (length (marks.spelling m)) cs
 unfolding mark_at
