@@ -195,7 +195,7 @@ lexes_or_faults e bytes ts f h k = differ f k
 
 -- Each text is a list of tokens or has a first fault.
 
-after_within : (rest : List ℕ) → bytes_of (after_blanks rest) ≤ bytes_of rest
+pub after_within : (rest : List ℕ) → bytes_of (after_blanks rest) ≤ bytes_of rest
 after_within rest = elim (is_nil (after_blanks rest)) [
     inl none ↦ omega (arith, ap bytes_of none)
   | inr some ↦ let b = blanks_before rest some in omega (arith, ap bytes_of b.1, bytes_of-append b.0 (after_blanks rest)) ]
@@ -296,7 +296,7 @@ token_is e (token.Name name) s scalar h = (s, scalar, h.0, h.1, h.2)
 token_is e (token.Number n) s scalar h = h.2
 token_is e (token.Mark m) s scalar h = refl
 
-scalars_apart : (xs ys : List ℕ) → all_scalars (xs ++ ys) ≡ true → (all_scalars xs ≡ true) × (all_scalars ys ≡ true)
+pub scalars_apart : (xs ys : List ℕ) → all_scalars (xs ++ ys) ≡ true → (all_scalars xs ≡ true) × (all_scalars ys ≡ true)
 scalars_apart [] ys h = (refl, h)
 scalars_apart (x ∷ xs) ys h =
     let k = both (scalar x) (all_scalars (xs ++ ys)) h in
