@@ -3,3 +3,4 @@ pub mod WordLemmas
 pub mod FrontLemmas
 pub mod ScanLemmas
 pub mod LayoutLemmas
+pub mod PrintLemmas

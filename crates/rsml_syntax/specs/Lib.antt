@@ -1,11 +1,13 @@
 pub mod Characters
 pub mod Globals
 pub mod Grammar
+pub mod Kinds
 pub mod Layout
 pub mod Lexing
 pub mod Marks
 pub mod Names
 pub mod Places
+pub mod Printing
 pub mod Relations
 pub mod Scanning
 pub mod Tables

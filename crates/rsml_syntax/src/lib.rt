@@ -4,6 +4,8 @@
 mod edition;
 mod list;
 mod no_memory;
+mod printer;
+mod spacing;
 mod syntax;
 mod text;
 mod token;
