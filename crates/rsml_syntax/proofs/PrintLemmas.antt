@@ -1,7 +1,7 @@
 -- Writing tokens one after another gives their layout.
 use Rattle.std.proofs.Common.{◌≡◌, ℕ, zero, suc, ◌+◌, ◌*◌, ◌≤◌, List, [], ◌∷◌, ◌++◌, length, replicate, Option, Some, None, Result, Ok, Err, refl, sym, ap, ◌∙◌, subst, arith, append_assoc}
-use Rattle.rsml_syntax.specs.declared.printer.Printer.{Printer}
-use Rattle.rsml_syntax.specs.declared.spacing.Kind.{Kind}
+use Rattle.rsml_syntax.specs.declared.printing.printer.Printer.{Printer}
+use Rattle.rsml_syntax.specs.declared.printing.spacing.Kind.{Kind}
 use Rattle.std.specs.Result.{OnOk}
 use Rattle.rsml_syntax.specs.declared.token.Mark.{Mark}
 use Rattle.rsml_syntax.specs.declared.token.Token.{Token}

@@ -1,7 +1,7 @@
 -- Tokens as their layout sees them.
 use Rattle.std.specs.Prelude.{ℕ, List, [], Option, Some, None}
-use Rattle.rsml_syntax.specs.declared.spacing.Kind.{Kind}
-use Rattle.rsml_syntax.specs.declared.spacing.Kind.TheVariants as kinds
+use Rattle.rsml_syntax.specs.declared.printing.spacing.Kind.{Kind}
+use Rattle.rsml_syntax.specs.declared.printing.spacing.Kind.TheVariants as kinds
 use Rattle.rsml_syntax.specs.declared.token.Token.{Token}
 use Rattle.rsml_syntax.specs.declared.token.Token.TheVariants as token
 use Rattle.rsml_syntax.specs.Layout.{space_between}

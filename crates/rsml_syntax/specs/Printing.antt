@@ -1,7 +1,7 @@
 -- What a printer has written, and what tokens add to it.
 use Rattle.std.specs.Prelude.{◌≡◌, ℕ, List, [], ◌∷◌, ◌++◌, Option, Some}
-use Rattle.rsml_syntax.specs.declared.printer.Printer.{Printer}
-use Rattle.rsml_syntax.specs.declared.spacing.Kind.{Kind}
+use Rattle.rsml_syntax.specs.declared.printing.printer.Printer.{Printer}
+use Rattle.rsml_syntax.specs.declared.printing.spacing.Kind.{Kind}
 use Rattle.rsml_syntax.specs.declared.token.Token.{Token}
 use Rattle.rsml_syntax.specs.Kinds.{kind_of, space_before}
 use Rattle.rsml_syntax.specs.Layout.{text_of, open_after}

@@ -4,8 +4,7 @@
 mod edition;
 mod list;
 mod no_memory;
-mod printer;
-mod spacing;
+mod printing;
 mod syntax;
 mod text;
 mod token;

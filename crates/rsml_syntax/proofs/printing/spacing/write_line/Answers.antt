@@ -1,6 +1,6 @@
 use Rattle.std.proofs.Common.{◌∷◌, [], ◌++◌, ap, ◌∙◌, arith}
 use Rattle.rsml_syntax.proofs.PrintLemmas.{two_more}
-use Rattle.rsml_syntax.proofs.spacing.write_line.Goals as goal
+use Rattle.rsml_syntax.proofs.printing.spacing.write_line.Goals as goal
 
 pub loop-brace-preserved : goal.loop-brace-preserved
 loop-brace-preserved c = record {

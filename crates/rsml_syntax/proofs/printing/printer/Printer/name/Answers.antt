@@ -1,7 +1,7 @@
 use Rattle.std.proofs.Common.{sym}
 use Rattle.rsml_syntax.specs.declared.token.Token.TheVariants as token
 use Rattle.rsml_syntax.proofs.PrintLemmas.{wrote_on_ok}
-use Rattle.rsml_syntax.proofs.printer.Printer.name.Goals as goal
+use Rattle.rsml_syntax.proofs.printing.printer.Printer.name.Goals as goal
 
 pub returns : goal.returns
 returns c =

@@ -1,5 +1,5 @@
 use Rattle.std.proofs.Common.{◌≡◌, ◌≤◌, ◌*◌, ◌++◌, ◌∷◌, replicate, vec_len}
-use Rattle.rsml_syntax.proofs.spacing.write_line.Given as goal
+use Rattle.rsml_syntax.proofs.printing.spacing.write_line.Given as goal
 
 abbrev pub invariant-loop-brace : goal.invariant-loop-brace
 invariant-loop-brace l = record {

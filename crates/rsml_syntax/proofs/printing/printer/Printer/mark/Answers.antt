@@ -3,7 +3,7 @@ use Rattle.rsml_syntax.specs.declared.token.Mark.TheVariants as marks
 use Rattle.rsml_syntax.specs.declared.token.Token.TheVariants as token
 use Rattle.rsml_syntax.specs.Layout.{open_after}
 use Rattle.rsml_syntax.proofs.PrintLemmas.{wrote, mark_within}
-use Rattle.rsml_syntax.proofs.printer.Printer.mark.Goals as goal
+use Rattle.rsml_syntax.proofs.printing.printer.Printer.mark.Goals as goal
 
 pub invariant_of-self : goal.invariant_of-self
 invariant_of-self c = record {

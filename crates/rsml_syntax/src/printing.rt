@@ -1,0 +1,6 @@
+mod declarations;
+mod items;
+mod printer;
+mod spacing;
+mod sums;
+mod tables;
