@@ -4,3 +4,4 @@ pub mod FrontLemmas
 pub mod ScanLemmas
 pub mod LayoutLemmas
 pub mod PrintLemmas
+pub mod BodyLemmas

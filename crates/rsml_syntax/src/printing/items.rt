@@ -1,4 +1,5 @@
 ghost use Rattle.std.specs.Prelude.{OnOk};
+ghost use Rattle.rsml_syntax.specs.declared.token.Mark.TheVariants as marks;
 ghost use Rattle.rsml_syntax.specs.Grammar as grammar;
 ghost use Rattle.rsml_syntax.specs.Printing.{Writes};
 ghost use Rattle.rsml_syntax.specs.Tokens.{Tokens};
@@ -55,4 +56,34 @@ pub(crate) fn print_separated<T: Print>(
         }
         None => Ok(()),
     }
+}
+
+/// One after another in braces.
+pub(crate) fn print_block<T: Print>(items: &[T], printer: &mut Printer) -> Result<(), NoMemory>
+    ensures { OnOk result (Writes printer.old printer.new (λ rest.
+        grammar.mark marks.OpenBrace (grammar.each T.tokens items.now (grammar.mark marks.CloseBrace rest)))) }
+{
+    printer.mark(Mark::OpenBrace)?;
+    print_each(items, printer)?;
+    printer.mark(Mark::CloseBrace)
+}
+
+/// With commas between them in braces.
+pub(crate) fn print_members<T: Print>(items: &[T], printer: &mut Printer) -> Result<(), NoMemory>
+    ensures { OnOk result (Writes printer.old printer.new (λ rest.
+        grammar.mark marks.OpenBrace (grammar.separated marks.Comma T.tokens items.now (grammar.mark marks.CloseBrace rest)))) }
+{
+    printer.mark(Mark::OpenBrace)?;
+    print_separated(Mark::Comma, items, printer)?;
+    printer.mark(Mark::CloseBrace)
+}
+
+/// With commas between them in parentheses.
+pub(crate) fn print_arguments<T: Print>(items: &[T], printer: &mut Printer) -> Result<(), NoMemory>
+    ensures { OnOk result (Writes printer.old printer.new (λ rest.
+        grammar.mark marks.OpenParen (grammar.separated marks.Comma T.tokens items.now (grammar.mark marks.CloseParen rest)))) }
+{
+    printer.mark(Mark::OpenParen)?;
+    print_separated(Mark::Comma, items, printer)?;
+    printer.mark(Mark::CloseParen)
 }

@@ -2,7 +2,7 @@ ghost use Rattle.std.specs.Prelude.{OnOk};
 ghost use Rattle.rsml_syntax.specs.Grammar as grammar;
 ghost use Rattle.rsml_syntax.specs.Printing.{Writes};
 
-use super::items::{Print, print_each, print_separated};
+use super::items::{Print, print_block, print_each, print_separated};
 use super::printer::Printer;
 use crate::no_memory::NoMemory;
 use crate::syntax::{Amount, Cell, Guard, Phrase, Relation, Row, Simple};
@@ -121,14 +121,6 @@ impl Print for Row {
     }
 }
 
-pub(crate) fn print_table(rows: &[Row], printer: &mut Printer) -> Result<(), NoMemory>
-    ensures { OnOk result (Writes printer.old printer.new (grammar.table rows.now)) }
-{
-    printer.mark(Mark::OpenBrace)?;
-    print_each(rows, printer)?;
-    printer.mark(Mark::CloseBrace)
-}
-
 /// The guard, after the word `when`.
 impl Print for Guard {
     ghost tokens = { grammar.when_guard };
@@ -137,7 +129,7 @@ impl Print for Guard {
         printer.word(Word::When)?;
         match self {
             Guard::Always => printer.word(Word::Always),
-            Guard::Table(rows) => print_table(rows.as_slice(), printer),
+            Guard::Table(rows) => print_block(rows.as_slice(), printer),
         }
     }
 }
