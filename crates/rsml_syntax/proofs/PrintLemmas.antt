@@ -2,15 +2,24 @@
 use Rattle.std.proofs.Common.{◌≡◌, ℕ, zero, suc, ◌+◌, ◌*◌, ◌≤◌, List, [], ◌∷◌, ◌++◌, length, replicate, Option, Some, None, Result, Ok, Err, refl, sym, ap, ◌∙◌, subst, arith, append_assoc}
 use Rattle.rsml_syntax.specs.declared.printing.printer.Printer.{Printer}
 use Rattle.rsml_syntax.specs.declared.printing.spacing.Kind.{Kind}
-use Rattle.std.specs.Result.{OnOk}
+use Rattle.std.specs.Result.{IfOk, OnOk}
+use Rattle.std.specs.Str.{IsUtf8}
+use Rattle.rsml_syntax.specs.declared.edition.Edition.TheVariants as editions
+use Rattle.rsml_syntax.specs.declared.no_memory.NoMemory.{NoMemory}
+use Rattle.rsml_syntax.specs.declared.syntax.Spec.{Spec}
+use Rattle.rsml_syntax.specs.declared.token.Placed.{Placed}
 use Rattle.rsml_syntax.specs.declared.token.Mark.{Mark}
 use Rattle.rsml_syntax.specs.declared.token.Token.{Token}
 use Rattle.rsml_syntax.specs.declared.token.Token.TheVariants as token
+use Rattle.rsml_syntax.specs.Grammar.{tokens_of}
 use Rattle.rsml_syntax.specs.Kinds.{kind_of, token_like, space_before}
 use Rattle.rsml_syntax.specs.Layout.{text_of, open_after, space_between, layout_from, layout}
+use Rattle.rsml_syntax.specs.Lexing.{Lexes, bare}
 use Rattle.rsml_syntax.specs.Marks as marks
 use Rattle.rsml_syntax.specs.Printing.{added, with_tokens, Writes}
 use Rattle.rsml_syntax.specs.Tokens.{Tokens}
+use Rattle.rsml_syntax.specs.WellFormed.{WellFormed}
+use Rattle.rsml_syntax.proofs.LayoutLemmas.{layout_lexes}
 use Rattle.rsml_syntax.proofs.WordLemmas.{mark_spelled}
 use Rattle.std.proofs.lemmas.List.{replicate-append-replicate, append-nil}
 
@@ -83,3 +92,20 @@ new_layout p t ts text depth last =
           ∙ ap (λ l. text_of a ++ l) (append_assoc (space_between d (token_like (kind_of a)) b) more (10 ∷ []))
           ∙ ap (λ l. text_of a ++ (l ++ (more ++ (10 ∷ [])))) (between_like d a b)
           ∙ ap (λ l. text_of a ++ (space_between d a b ++ l)) (laid d b ts)
+
+-- all of a specification is written, and nothing else
+pub printed_layout : {A : Type 0} (r : Result A NoMemory) (view : A → List ℕ) (s : Spec) (p q : Printer) → p.text.items ≡ [] → p.depth ≡ 0 → p.last ≡ None →
+    with_tokens p (tokens_of s) ≡ with_tokens q [] → IfOk r (λ v. view v ≡ with_tokens q [] ++ (10 ∷ [])) → IfOk r (λ v. view v ≡ layout (tokens_of s))
+printed_layout (Err e) view s p q text depth last all h = tt
+printed_layout (Ok v) view s p q text depth last all h = h ∙ ap (λ l. l ++ (10 ∷ [])) (sym all) ∙ new_layout p _ _ text depth last
+
+-- the layout is text, and has the tokens of the specification
+pub layout_text : (s : Spec) (bytes : List ℕ) → WellFormed s → bytes ≡ layout (tokens_of s) → IsUtf8 bytes
+layout_text s bytes w is =
+    let r = (layout_lexes editions.Second (tokens_of s) w.tokens).1 in
+    (r.0, (r.1, sym (is ∙ r.2)))
+
+pub layout_reads : (s : Spec) (bytes : List ℕ) → WellFormed s → bytes ≡ layout (tokens_of s) → (ts : List Placed) × Lexes editions.Second bytes ts × (bare ts ≡ tokens_of s)
+layout_reads s bytes w is =
+    let r = layout_lexes editions.Second (tokens_of s) w.tokens in
+    (r.0, subst (λ (l : List ℕ). Lexes editions.Second l r.0) (sym is) r.1, r.2)

@@ -13,6 +13,7 @@ mod world;
 pub use edition::Edition;
 pub use list::List;
 pub use no_memory::NoMemory;
+pub use printing::print_spec;
 pub use syntax::{
     Amount, Answer, Body, Bus, Case, Cell, Decl, Guard, Index, Initial, Mention, Operand, Phrase,
     Relation, Row, SendCase, Signed, Simple, Spec, StateDecl, Sum, Term, Transition, Value,
