@@ -1,0 +1,9 @@
+mod AllWorlds
+mod Computed
+mod Exists
+mod Lengths
+mod Same
+mod Verdicts
+mod Written
+mod examples
+mod values

@@ -1,0 +1,27 @@
+-- A specification of the examples, as a value. tools/syntax_values.py writes this file.
+use Rattle.std.specs.Prelude.{List, [], ◌∷◌, Some, None}
+use Rattle.rsml_syntax.specs.declared.syntax.Spec.{Spec}
+use Rattle.rsml_syntax.specs.declared.syntax.Body.{Basic, One', All', end_of-StateDecl, more_of-StateDecl}
+use Rattle.rsml_meaning.proofs.Written.{always, event, move, name, plain, receive, specification, stay}
+
+abbrev pub nest : Spec
+nest = specification "Nest"
+    (event "Go" None ∷
+    event "Reset" None ∷
+    event "Jump" None ∷
+    receive "Push" None [] (plain "Go") ∷
+    receive "Clear" None [] (plain "Reset") ∷
+    receive "Leap" None [] (plain "Jump") ∷
+    [])
+    "Top" (One' (name "A") (tt ∷ [])
+      (more_of-StateDecl (name "A") None (One' (name "X") (tt ∷ tt ∷ [])
+        (more_of-StateDecl (name "X") None Basic
+        (more_of-StateDecl (name "Y") None Basic
+        end_of-StateDecl)) []
+        (move "X" ("Y" ∷ []) (plain "Go") always [] ∷
+         stay "Y" (plain "Go") always [] ∷
+         []))
+      end_of-StateDecl) []
+      (move "A" ("A" ∷ []) (plain "Reset") always [] ∷
+       move "A" ("A" ∷ "Y" ∷ []) (plain "Jump") always [] ∷
+       []))
