@@ -14,13 +14,12 @@ TOKEN = re.compile(r"[ \t\r\n]*(?:#[^\n]*\n[ \t\r\n]*)*(\w+|\.\.|!=|<=|>=|->|\S)
 RELATIONS = {"=": "Equal", "!=": "NotEqual", "<": "Less", "<=": "LessEqual", ">": "Greater", ">=": "GreaterEqual"}
 CELLS = {"T": "T", "F": "F", ".": "Dot"}
 
-HEAD = """-- A specification of the examples, as a value. tools/syntax_values.py writes this file.
-use Rattle.std.specs.Prelude.{{List, [], ◌∷◌, Some, None}}
-use Rattle.rsml_syntax.specs.declared.syntax.Spec.{{Spec}}
-use Rattle.rsml_syntax.specs.declared.syntax.Body.{{Basic, One', All', end_of-StateDecl, more_of-StateDecl}}
-use Rattle.rsml_meaning.proofs.Written.{{{words}}}
-
-"""
+SYNTAX = "Rattle.rsml_syntax.specs.declared.syntax"
+IMPORTS = [
+    ("Rattle.std.specs.Prelude", ["[]", "◌∷◌", "Some", "None"]),
+    (f"{SYNTAX}.Spec", ["Spec"]),
+    (f"{SYNTAX}.Body", ["Basic", "One'", "All'", "end_of-StateDecl", "more_of-StateDecl"]),
+]
 
 
 class Text:
@@ -335,17 +334,24 @@ def spec(text, value_name):
     return f"abbrev pub {value_name} : Spec\n{value_name} = {word} {spec_name}\n    {stacked(decls, 4)}\n    {top} {states}\n"
 
 
+def head(written, words):
+    """The first lines of a file, which import what the value uses."""
+    lines = ["-- A specification of the examples, as a value. tools/syntax_values.py writes this file."]
+    for module, names in [*IMPORTS, ("Rattle.rsml_meaning.proofs.Written", sorted(words))]:
+        used = [item for item in names if item.strip("◌") in written]
+        lines.append(f"use {module}.{{{', '.join(used)}}}")
+    return "\n".join(lines) + "\n\n"
+
+
 def main(folder):
-    values = folder / "proofs" / "values"
-    names = []
+    modules = []
     for path in sorted((folder / "examples").glob("*.rsml")):
         text = Text(path.read_text())
         written = spec(text, path.stem)
         module = path.stem.title().replace("_", "")
-        head = HEAD.format(words=", ".join(sorted(text.used)))
-        (values / f"{module}.antt").write_text(head + written)
-        names.append(f"pub mod {module}\n")
-    (folder / "proofs" / "values.antt").write_text("".join(names))
+        (folder / "proofs" / "values" / f"{module}.antt").write_text(head(written, text.used) + written)
+        modules.append(f"pub mod {module}\n")
+    (folder / "proofs" / "values.antt").write_text("".join(modules))
 
 
 main(Path(sys.argv[1]))

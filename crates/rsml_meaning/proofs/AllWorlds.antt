@@ -1,11 +1,9 @@
 -- All worlds of a small specification in order, so that a verdict can be computed.
-use Rattle.std.proofs.Common.{◌≡◌, ℕ, zero, suc, ◌+◌, ◌-◌, ◌<◌, ◌≤◌, Bool, true, false, ◌&&◌, ◌||◌, not, List, [], ◌∷◌, ◌++◌, length, map, flat_map, ℤ, pos, negsuc, ◌+ℤ◌, nat_lt, nat_eq, refl, sym, ap, ◌∙◌, subst, true≢false, arith, IsTrue, inl, inr, ◌⊎◌}
+use Rattle.std.proofs.Common.{◌≡◌, ℕ, zero, suc, ◌+◌, ◌<◌, Bool, true, false, ◌&&◌, List, [], ◌∷◌, ◌++◌, length, map, flat_map, ℤ, pos, negsuc, nat_eq, refl, sym, ap, subst, true≢false, arith, inl, inr}
 use Rattle.std.specs.Prelude.{int_le, unsigned_abs}
-use Rattle.std.specs.List.{list_any, list_all}
+use Rattle.std.specs.List.{list_all}
 use Rattle.std.specs.Cmp.{first_so, second_so}
 use Rattle.std.specs.Cmp.Lexicographic.{pointwise}
-use Rattle.std.specs.declared.cmp.Ordering.{Ordering}
-use Rattle.std.specs.declared.cmp.Ordering.TheVariants.{Less, Equal, Greater}
 use Rattle.std.proofs.lemmas.Bool.Decides.{nat_tests}
 use Rattle.std.proofs.lemmas.Int.{ints}
 use Rattle.rsml_syntax.specs.declared.syntax.Spec.{Spec}
@@ -13,7 +11,7 @@ use Rattle.rsml_syntax.specs.declared.world.World.{World}
 use Rattle.rsml_meaning.specs.Words.{IsOne}
 use Rattle.rsml_meaning.specs.Instances.{Component, components}
 use Rattle.rsml_meaning.specs.Cells.{InputCell, Kind, cells, is_of}
-use Rattle.rsml_meaning.specs.Worlds.{is_choice, is_world, IsWorld, world_cmp, IsBefore}
+use Rattle.rsml_meaning.specs.Worlds.{is_choice, IsWorld}
 
 -- 0 to n - 1
 abbrev pub below : ℕ → List ℕ

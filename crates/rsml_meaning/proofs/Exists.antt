@@ -1,5 +1,5 @@
 -- The computed micro-step is one, and the computed run is one where its steps end.
-use Rattle.std.proofs.Common.{◌≡◌, ℕ, zero, suc, Bool, true, false, ◌&&◌, List, [], ◌∷◌, map, filter_map, zip, ℤ, pos, refl, sym, ap, ◌∙◌, subst, true≢false, inl, inr, ◌⊎◌}
+use Rattle.std.proofs.Common.{◌≡◌, ℕ, zero, suc, Bool, true, false, List, [], ◌∷◌, map, filter_map, zip, ℤ, pos, refl, sym, ap, subst, true≢false, inl, inr}
 use Rattle.std.specs.List.{AllZip}
 use Rattle.std.specs.Cmp.{first_so, second_so}
 use Rattle.rsml_syntax.specs.declared.syntax.Spec.{Spec}

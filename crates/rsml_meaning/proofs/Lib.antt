@@ -1,9 +1,16 @@
 mod AllWorlds
+mod Children
 mod Computed
+mod Entering
 mod Exists
 mod Lengths
+mod Order
+mod OneReport
+mod Repeats
 mod Same
+mod Stable
 mod Verdicts
+mod WellFormed
 mod Written
 mod examples
 mod values

@@ -1,17 +1,16 @@
 -- Verdicts of a small specification, computed over all its worlds.
-use Rattle.std.proofs.Common.{◌≡◌, ℕ, ◌≤◌, Bool, true, false, ◌&&◌, not, List, [], ◌∷◌, nat_eq, nat_le, refl, sym, ap, ◌∙◌, true≢false, arith, IsTrue, inl, inr, ◌⊎◌}
+use Rattle.std.proofs.Common.{◌≡◌, ℕ, ◌≤◌, Bool, true, false, ◌&&◌, not, List, [], ◌∷◌, nat_eq, nat_le, refl, sym, ap, ◌∙◌, true≢false, arith, inl, inr}
 use Rattle.std.specs.List.{list_all}
 use Rattle.std.specs.Ordering.{is_lt}
 use Rattle.std.specs.Cmp.{first_so, second_so}
-use Rattle.std.specs.declared.cmp.Ordering.TheVariants.{Less}
 use Rattle.std.proofs.lemmas.Bool.Decides.{nat_tests}
 use Rattle.rsml_syntax.specs.declared.syntax.Spec.{Spec}
 use Rattle.rsml_syntax.specs.declared.world.World.{World}
 use Rattle.rsml_meaning.specs.Words.{IsOne}
-use Rattle.rsml_meaning.specs.Worlds.{is_world, IsWorld, world_cmp, IsBefore}
+use Rattle.rsml_meaning.specs.Worlds.{is_world, IsWorld, world_cmp}
 use Rattle.rsml_meaning.specs.Truth.{view}
-use Rattle.rsml_meaning.specs.Groups.{Group, meets, enabled_count, Sound}
-use Rattle.rsml_meaning.specs.Findings.{EnablesIn, EnablesNone, EnablesTwo, IsLeast, IsVerdict, Verdict, sound, none, two}
+use Rattle.rsml_meaning.specs.Groups.{Group, meets, enabled_count}
+use Rattle.rsml_meaning.specs.Findings.{EnablesIn, IsLeast, IsVerdict, Verdict, sound, none, two}
 use Rattle.rsml_meaning.proofs.AllWorlds.{all_worlds, no_negatives, world_among}
 
 -- the world meets the group's condition, and the number of enabled members passes the test

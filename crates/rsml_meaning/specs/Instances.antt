@@ -6,6 +6,7 @@ use Rattle.rsml_syntax.specs.declared.syntax.Decl.TheVariants as decl
 use Rattle.rsml_syntax.specs.declared.syntax.Amount.{Amount}
 use Rattle.rsml_syntax.specs.declared.syntax.Bus.{Bus}
 use Rattle.rsml_syntax.specs.declared.syntax.Transition.{Transition}
+use Rattle.rsml_syntax.specs.declared.syntax.StateDecl.{StateDecl}
 use Rattle.rsml_syntax.specs.declared.syntax.Body.{Body, Basic, One', All', Row_of-StateDecl, end_of-StateDecl, more_of-StateDecl}
 use Rattle.rsml_syntax.specs.Names.{Name}
 use Rattle.rsml_syntax.specs.Globals.{Globals, globals, many}
@@ -73,6 +74,10 @@ abbrev mutual
 -- a state with this body, and after it the states inside it
 abbrev pub subtree : Globals → Body → Path → List State
 subtree g body path = new_state body path ∷ inside g body path
+
+-- the states that a child makes: each instance before what is inside it, an array once for each index
+abbrev pub child_states : Globals → Path → StateDecl → List State
+child_states g path child = flat_map (λ i. subtree g child.body (child_path path (at child.name i))) (indices g child.size)
 
 -- the state instances
 abbrev pub states : Spec → List State

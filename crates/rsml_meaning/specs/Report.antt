@@ -1,12 +1,12 @@
 -- The report on a specification.
-use Rattle.std.specs.Prelude.{◌≡◌, ℕ, ◌+◌, Bool, true, false, List, [], ◌∷◌, ◌++◌, length, Option, Some, None, if◌then◌else◌, ℤ, IsTrue, ◌↔◌, ◌==◌, is_some, flat_map, filter, zip, position, unwrap_or, codes, decimal}
+use Rattle.std.specs.Prelude.{◌≡◌, ℕ, ◌+◌, Bool, true, false, List, [], ◌∷◌, ◌++◌, length, Option, Some, None, if◌then◌else◌, ℤ, IsTrue, ◌↔◌, ◌==◌, is_some, flat_map, filter, zip, unwrap_or, codes, decimal}
 use Rattle.std.specs.List.{AllZip, items_where_true}
 use Rattle.std.specs.Ordering.{nat_cmp, int_eq}
 use Rattle.std.specs.Cmp.Lexicographic.{slice_cmp}
 use Rattle.std.specs.declared.cmp.Ordering.TheVariants.{Less}
 use Rattle.rsml_syntax.specs.declared.syntax.Spec.{Spec}
 use Rattle.rsml_syntax.specs.declared.world.World.{World}
-use Rattle.rsml_meaning.specs.Words.{Instance, same_instance, has}
+use Rattle.rsml_meaning.specs.Words.{Instance, has, place_in}
 use Rattle.rsml_meaning.specs.Instances.{Component, components, events}
 use Rattle.rsml_meaning.specs.Cells.{InputCell, cells}
 use Rattle.rsml_meaning.specs.Active.{chosen}
@@ -51,7 +51,7 @@ pub record IsClash (s : Spec) (x : Instance) (c : ClashFound) : Type 0 where
   pub clash : Clash s x c.round c.one c.two
 
 abbrev pub event_place : Spec → Instance → ℕ
-event_place s e = unwrap_or (position (same_instance e) (events s)) 0
+event_place s e = unwrap_or (place_in (events s) e) 0
 
 abbrev pub rank : Spec → ClashFound → List ℕ
 rank s c = c.round ∷ event_place s c.one ∷ event_place s c.two ∷ []

@@ -1,6 +1,6 @@
 -- Words on instances, paths and lists.
 use Rattle.std.specs.Prelude.{◌≡◌, ℕ, zero, suc, Bool, true, false, ◌&&◌, ◌||◌, ◌⊎◌, List, [], ◌∷◌, ◌++◌, length, Option, Some, None, nat_eq, nat_lt, ⊤}
-use Rattle.std.specs.List.{list_any}
+use Rattle.std.specs.List.{list_any, position_from}
 use Rattle.rsml_syntax.specs.Names.{Name, same}
 use Rattle.rsml_syntax.specs.declared.world.Step.{Step}
 
@@ -17,6 +17,10 @@ same_instance x y = same x.name y.name && nat_eq x.index y.index
 -- whether an instance is among these
 abbrev pub has : List Instance → Instance → Bool
 has xs x = list_any (same_instance x) xs
+
+-- the place of an instance among these, counted from 0
+abbrev pub place_in : List Instance → Instance → Option ℕ
+place_in xs x = position_from (same_instance x) 0 xs
 
 -- the steps from the top state down to a state instance
 abbrev pub Path : Type 0

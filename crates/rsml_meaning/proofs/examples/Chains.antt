@@ -1,5 +1,5 @@
 -- Lengths of chains, loops and a clash.
-use Rattle.std.specs.Prelude.{◌≡◌, refl, ℕ, ◌≤◌, true, List, [], ◌∷◌, codes}
+use Rattle.std.specs.Prelude.{refl, List, [], ◌∷◌, codes}
 use Rattle.std.proofs.Common.{lit≤}
 use Prim.Native.String.{String}
 use Rattle.rsml_meaning.specs.Words.{Instance, at}

@@ -1,9 +1,9 @@
 -- What event lines break or tell, and the first faults of event files.
-use Rattle.std.specs.Prelude.{◌≡◌, refl, ℕ, Bool, true, false, List, [], ◌∷◌, ◌++◌, map, Option, Some, None, ℤ, pos, codes, replicate}
+use Rattle.std.specs.Prelude.{◌≡◌, refl, List, [], ◌∷◌, map, Option, Some, None, ℤ, pos, codes, replicate}
 use Rattle.std.specs.Str.{is_utf8, chars}
 use Prim.Native.String.{String}
 use Rattle.rsml_syntax.specs.declared.syntax.Spec.{Spec}
-use Rattle.rsml_meaning.specs.EventLines.{Bytes, LineRule, E1, E2, E3, E4, E5, E6, E7, Reading, breaks, tells, read_line}
+use Rattle.rsml_meaning.specs.EventLines.{LineRule, E1, E2, E3, E4, E5, E6, E7, Reading, breaks, tells, read_line}
 use Rattle.rsml_meaning.specs.EventFiles.{Limits, program_limits, FileFault, long_line, broken_line, long_file, first_fault}
 use Rattle.rsml_meaning.proofs.values.Height.{height}
 use Rattle.rsml_meaning.proofs.values.Lamp.{lamp}

@@ -1,11 +1,11 @@
 -- Groups, lines, conditions and verdicts, computed over all worlds.
-use Rattle.std.specs.Prelude.{◌≡◌, refl, ℕ, true, false, List, [], ◌∷◌, map, ℤ, pos, codes}
+use Rattle.std.specs.Prelude.{◌≡◌, refl, true, false, List, [], ◌∷◌, map, pos, codes}
 use Rattle.std.specs.Fmt.{digits}
 use Rattle.rsml_syntax.specs.declared.syntax.Spec.{Spec}
 use Rattle.rsml_meaning.specs.Words.{Instance, at, Path}
 use Rattle.rsml_meaning.specs.Truth.{view}
 use Rattle.rsml_meaning.specs.Transitions.{line}
-use Rattle.rsml_meaning.specs.Groups.{Group, state, groups, members, meets, enabled_count}
+use Rattle.rsml_meaning.specs.Groups.{Group, state, groups, meets}
 use Rattle.rsml_meaning.specs.Findings.{IsVerdict, sound, none}
 use Rattle.rsml_meaning.specs.Texts.{Text, label}
 use Rattle.rsml_meaning.specs.Report.{finding, group_text}

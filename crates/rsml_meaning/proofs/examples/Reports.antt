@@ -1,5 +1,5 @@
 -- Reports, computed.
-use Rattle.std.specs.Prelude.{◌≡◌, refl, List, [], ◌∷◌, Some, None, false, codes}
+use Rattle.std.specs.Prelude.{◌≡◌, refl, [], ◌∷◌, Some, None, false, codes}
 use Rattle.std.specs.Fmt.{digits}
 use Rattle.rsml_meaning.specs.Findings.{sound}
 use Rattle.rsml_meaning.specs.Report.{report_text}

@@ -3,8 +3,8 @@ use Rattle.std.specs.Prelude.{◌≡◌, refl, ℕ, Bool, true, false, List, [],
 use Prim.Native.String.{String}
 use Rattle.rsml_syntax.specs.declared.syntax.Spec.{Spec}
 use Rattle.rsml_syntax.specs.declared.world.World.{World}
-use Rattle.rsml_meaning.specs.Words.{Instance, at, Path}
-use Rattle.rsml_meaning.specs.Instances.{states, components}
+use Rattle.rsml_meaning.specs.Words.{at, Path}
+use Rattle.rsml_meaning.specs.Instances.{states}
 use Rattle.rsml_meaning.specs.Cells.{cells}
 use Rattle.rsml_meaning.specs.Worlds.{is_world}
 use Rattle.rsml_meaning.specs.Active.{active}

@@ -1,7 +1,7 @@
 -- A specification of the examples, as a value. tools/syntax_values.py writes this file.
-use Rattle.std.specs.Prelude.{List, [], ◌∷◌, Some, None}
+use Rattle.std.specs.Prelude.{[], ◌∷◌, None}
 use Rattle.rsml_syntax.specs.declared.syntax.Spec.{Spec}
-use Rattle.rsml_syntax.specs.declared.syntax.Body.{Basic, One', All', end_of-StateDecl, more_of-StateDecl}
+use Rattle.rsml_syntax.specs.declared.syntax.Body.{Basic, One', end_of-StateDecl, more_of-StateDecl}
 use Rattle.rsml_meaning.proofs.Written.{Equal, F, Less, T, case, compares, digits, enumeration, event, from_number, function, input, is_function, just, name, of, phrase, plain, plus, range, receive, row, specification, stay, when}
 
 abbrev pub grades : Spec

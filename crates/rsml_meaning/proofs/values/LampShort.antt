@@ -1,7 +1,7 @@
 -- A specification of the examples, as a value. tools/syntax_values.py writes this file.
-use Rattle.std.specs.Prelude.{List, [], ◌∷◌, Some, None}
+use Rattle.std.specs.Prelude.{[], ◌∷◌, None}
 use Rattle.rsml_syntax.specs.declared.syntax.Spec.{Spec}
-use Rattle.rsml_syntax.specs.declared.syntax.Body.{Basic, One', All', end_of-StateDecl, more_of-StateDecl}
+use Rattle.rsml_syntax.specs.declared.syntax.Body.{Basic, One', end_of-StateDecl, more_of-StateDecl}
 use Rattle.rsml_meaning.proofs.Written.{Equal, F, T, compares, enumeration, event, from_name, input, just, move, name, of, phrase, plain, receive, row, specification, stay, when}
 
 abbrev pub lamp_short : Spec

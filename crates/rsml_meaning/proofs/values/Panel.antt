@@ -1,7 +1,7 @@
 -- A specification of the examples, as a value. tools/syntax_values.py writes this file.
-use Rattle.std.specs.Prelude.{List, [], ◌∷◌, Some, None}
+use Rattle.std.specs.Prelude.{[], ◌∷◌, None}
 use Rattle.rsml_syntax.specs.declared.syntax.Spec.{Spec}
-use Rattle.rsml_syntax.specs.declared.syntax.Body.{Basic, One', All', end_of-StateDecl, more_of-StateDecl}
+use Rattle.rsml_syntax.specs.declared.syntax.Body.{Basic}
 use Rattle.rsml_meaning.proofs.Written.{Equal, F, T, compares, enumeration, event, from_name, input, just, of, phrase, plain, quiet, receive, row, send, send_case, sends, specification, value, when}
 
 abbrev pub panel : Spec

@@ -1,7 +1,7 @@
 -- A specification of the examples, as a value. tools/syntax_values.py writes this file.
-use Rattle.std.specs.Prelude.{List, [], ◌∷◌, Some, None}
+use Rattle.std.specs.Prelude.{[], ◌∷◌, None}
 use Rattle.rsml_syntax.specs.declared.syntax.Spec.{Spec}
-use Rattle.rsml_syntax.specs.declared.syntax.Body.{Basic, One', All', end_of-StateDecl, more_of-StateDecl}
+use Rattle.rsml_syntax.specs.declared.syntax.Body.{Basic, One', end_of-StateDecl, more_of-StateDecl}
 use Rattle.rsml_meaning.proofs.Written.{F, GreaterEqual, T, add, compares, digits, event, from_number, input, just, less, name, of, phrase, plain, plus, previous, range, receive, row, specification, stay, total, when}
 
 abbrev pub rise : Spec

@@ -1,5 +1,5 @@
 -- A specification of the examples, as a value. tools/syntax_values.py writes this file.
-use Rattle.std.specs.Prelude.{List, [], ◌∷◌, Some, None}
+use Rattle.std.specs.Prelude.{[], ◌∷◌, Some, None}
 use Rattle.rsml_syntax.specs.declared.syntax.Spec.{Spec}
 use Rattle.rsml_syntax.specs.declared.syntax.Body.{Basic, One', All', end_of-StateDecl, more_of-StateDecl}
 use Rattle.rsml_meaning.proofs.Written.{Equal, F, GreaterEqual, Less, T, always, at_name, at_this, bus, case, compares, constant, digits, enumeration, event, from_name, from_number, function, in_state, input, is_macro, just, macro, minus, move, name, number, of, phrase, plain, plus, range, receive, row, send, send_case, sends, some_of, specification, stay, value, value_of, when}

@@ -1,5 +1,5 @@
 -- A specification of the examples, as a value. tools/syntax_values.py writes this file.
-use Rattle.std.specs.Prelude.{List, [], ◌∷◌, Some, None}
+use Rattle.std.specs.Prelude.{[], ◌∷◌, Some, None}
 use Rattle.rsml_syntax.specs.declared.syntax.Spec.{Spec}
 use Rattle.rsml_syntax.specs.declared.syntax.Body.{Basic, One', All', end_of-StateDecl, more_of-StateDecl}
 use Rattle.rsml_meaning.proofs.Written.{F, GreaterEqual, T, at_this, compares, digits, event, from_number, input, just, move, name, number, of, phrase, plus, range, receive, row, specification, stay, when}
