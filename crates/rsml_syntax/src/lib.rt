@@ -1,13 +1,16 @@
 //! What a specification is: its tokens, its syntax, and the worlds that it is about.
 #![tactic(auto)]
 
+mod edition;
 mod list;
 mod no_memory;
 mod syntax;
 mod text;
 mod token;
+mod want;
 mod world;
 
+pub use edition::Edition;
 pub use list::List;
 pub use no_memory::NoMemory;
 pub use syntax::{
@@ -16,4 +19,5 @@ pub use syntax::{
 };
 pub use text::Text;
 pub use token::{MARKS, Mark, Placed, Token, WORDS, Word};
+pub use want::Want;
 pub use world::{Path, Step, World};
