@@ -10,7 +10,7 @@ use Rattle.rsml_syntax.specs.declared.syntax.Spec.{Spec}
 use Rattle.rsml_syntax.specs.declared.world.World.{World}
 use Rattle.rsml_meaning.specs.Words.{IsOne}
 use Rattle.rsml_meaning.specs.Instances.{Component, components}
-use Rattle.rsml_meaning.specs.Cells.{InputCell, Kind, cells, is_of}
+use Rattle.rsml_meaning.specs.Cells.{InputCell, InputType, cells, is_of}
 use Rattle.rsml_meaning.specs.Worlds.{is_choice, IsWorld}
 
 -- 0 to n - 1
@@ -24,7 +24,7 @@ picks [] = [] ∷ []
 picks (xs ∷ more) = flat_map (λ x. map (λ ys. x ∷ ys) (picks more)) xs
 
 -- the numbers from the low end of a type, as many as there are up to its high end, at low ends that are not negative
-abbrev pub numbers_of : Kind → List ℤ
+abbrev pub numbers_of : InputType → List ℤ
 numbers_of k = map pos (below (unsigned_abs k.high + 1))
 
 abbrev pub pair_up : List (List ℤ) → List ℕ → List World
@@ -32,7 +32,7 @@ pair_up numbers ns = map (λ zs. record { choices = ns; cells = zs }) numbers
 
 -- all worlds, the least first, of a specification with no negative numbers
 abbrev pub all_worlds : Spec → List World
-all_worlds s = flat_map (pair_up (picks (map (λ c. numbers_of c.kind) (cells s)))) (picks (map (λ c. below (length c.children)) (components s)))
+all_worlds s = flat_map (pair_up (picks (map (λ c. numbers_of c.numbers) (cells s)))) (picks (map (λ c. below (length c.children)) (components s)))
 
 one_front : {A : Type 0} (y : A) (xs ys : List A) → IsOne y xs → IsOne y (xs ++ ys)
 one_front y (x ∷ xs) ys (inl e) = inl e
@@ -63,7 +63,7 @@ one_below k (suc n) h = by_test (nat_eq k n) refl (one_below k n)
 
 -- the low ends are not negative
 abbrev pub no_negatives : Spec → Bool
-no_negatives s = list_all (λ c. int_le (pos 0) c.kind.low) (cells s)
+no_negatives s = list_all (λ c. int_le (pos 0) c.numbers.low) (cells s)
 
 number_among : (low high z : ℤ) → int_le (pos 0) low ≡ true → (int_le low z && int_le z high) ≡ true → IsOne z (map pos (below (unsigned_abs high + 1)))
 number_among low high (pos n) h k = by_high high (second_so (int_le low (pos n)) (int_le (pos n) high) k)
@@ -77,19 +77,19 @@ number_among low high (negsuc n) h k = absurd (by_low low h (first_so (int_le lo
     by_low (pos m) e f = true≢false (sym f)
     by_low (negsuc m) e f = true≢false (sym e)
 
-numbers_among : (cs : List InputCell) (zs : List ℤ) → list_all (λ c. int_le (pos 0) c.kind.low) cs ≡ true → pointwise (λ c n. is_of c.kind n) cs zs ≡ true
-    → IsOne zs (picks (map (λ c. numbers_of c.kind) cs))
+numbers_among : (cs : List InputCell) (zs : List ℤ) → list_all (λ c. int_le (pos 0) c.numbers.low) cs ≡ true → pointwise (λ c n. is_of c.numbers n) cs zs ≡ true
+    → IsOne zs (picks (map (λ c. numbers_of c.numbers) cs))
 numbers_among [] [] h k = inl refl
 numbers_among [] (z ∷ zs) h k = absurd (true≢false (sym k))
 numbers_among (c ∷ cs) [] h k = absurd (true≢false (sym k))
 numbers_among (c ∷ cs) (z ∷ zs) h k =
-    let rest = picks (map (λ d. numbers_of d.kind) cs) in
-    one_flat (λ x. map (λ ys. x ∷ ys) rest) z (z ∷ zs) (numbers_of c.kind)
-      (number_among c.kind.low c.kind.high z (first_so (int_le (pos 0) c.kind.low) (list_all (λ d. int_le (pos 0) d.kind.low) cs) h)
-        (first_so (is_of c.kind z) (pointwise (λ d n. is_of d.kind n) cs zs) k))
-      (one_map (λ ys. z ∷ ys) zs rest
-        (numbers_among cs zs (second_so (int_le (pos 0) c.kind.low) (list_all (λ d. int_le (pos 0) d.kind.low) cs) h)
-          (second_so (is_of c.kind z) (pointwise (λ d n. is_of d.kind n) cs zs) k)))
+    let rest = picks (map (λ d. numbers_of d.numbers) cs) in
+    one_flat (λ x. map (λ ys. x ∷ ys) rest) z (z ∷ zs) (numbers_of c.numbers)
+    (number_among c.numbers.low c.numbers.high z (first_so (int_le (pos 0) c.numbers.low) (list_all (λ d. int_le (pos 0) d.numbers.low) cs) h)
+    (first_so (is_of c.numbers z) (pointwise (λ d n. is_of d.numbers n) cs zs) k))
+    (one_map (λ ys. z ∷ ys) zs rest
+    (numbers_among cs zs (second_so (int_le (pos 0) c.numbers.low) (list_all (λ d. int_le (pos 0) d.numbers.low) cs) h)
+    (second_so (is_of c.numbers z) (pointwise (λ d n. is_of d.numbers n) cs zs) k)))
 
 choices_among : (cs : List Component) (ns : List ℕ) → pointwise is_choice cs ns ≡ true → IsOne ns (picks (map (λ c. below (length c.children)) cs))
 choices_among [] [] h = inl refl
@@ -99,14 +99,14 @@ choices_among (c ∷ cs) (n ∷ ns) h =
     let rest = picks (map (λ d. below (length d.children)) cs) in
     let k = first_so (is_choice c n) (pointwise is_choice cs ns) h in
     one_flat (λ x. map (λ ys. x ∷ ys) rest) n (n ∷ ns) (below (length c.children))
-      (one_below n (length c.children) (grind (arith, nat_tests)))
-      (one_map (λ ys. n ∷ ys) ns rest (choices_among cs ns (second_so (is_choice c n) (pointwise is_choice cs ns) h)))
+    (one_below n (length c.children) (grind (arith, nat_tests)))
+    (one_map (λ ys. n ∷ ys) ns rest (choices_among cs ns (second_so (is_choice c n) (pointwise is_choice cs ns) h)))
 
 -- each world is among all worlds
 pub world_among : (s : Spec) (w : World) → no_negatives s ≡ true → IsWorld s w → IsOne w (all_worlds s)
 world_among s w h i =
-    let choices = choices_among (components s) w.choices (first_so (pointwise is_choice (components s) w.choices) (pointwise (λ c n. is_of c.kind n) (cells s) w.cells) i) in
-    let numbers = numbers_among (cells s) w.cells h (second_so (pointwise is_choice (components s) w.choices) (pointwise (λ c n. is_of c.kind n) (cells s) w.cells) i) in
-    let among = picks (map (λ c. numbers_of c.kind) (cells s)) in
+    let choices = choices_among (components s) w.choices (first_so (pointwise is_choice (components s) w.choices) (pointwise (λ c n. is_of c.numbers n) (cells s) w.cells) i) in
+    let numbers = numbers_among (cells s) w.cells h (second_so (pointwise is_choice (components s) w.choices) (pointwise (λ c n. is_of c.numbers n) (cells s) w.cells) i) in
+    let among = picks (map (λ c. numbers_of c.numbers) (cells s)) in
     one_flat (pair_up among) w.choices w (picks (map (λ c. below (length c.children)) (components s))) choices
-      (one_map (λ zs. record { choices = w.choices; cells = zs }) w.cells among numbers)
+    (one_map (λ zs. record { choices = w.choices; cells = zs }) w.cells among numbers)

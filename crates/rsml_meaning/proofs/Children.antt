@@ -2,10 +2,9 @@
 use Rattle.std.proofs.Common.{◌≡◌, List, ◌∷◌, ◌++◌, map, flat_map, Some, refl, ap, ◌∙◌}
 use Rattle.rsml_syntax.specs.declared.syntax.StateDecl.{StateDecl}
 use Rattle.rsml_syntax.specs.declared.syntax.Body.{Body, One, One', All, All', Row_of-StateDecl, end_of-StateDecl, more_of-StateDecl, items-the_row-StateDecl, items_hidden-the_row-StateDecl-0}
-use Rattle.rsml_syntax.specs.Globals.{Globals}
+use Rattle.rsml_syntax.specs.Globals.{Globals, indices}
 use Rattle.rsml_meaning.specs.Words.{Path, at, child_path}
-use Rattle.rsml_meaning.specs.Instances.{new_component, new_state, row_names, indices, inside, row_inside, child_states}
-use Rattle.rsml_meaning.specs.Written.{transitions_in, row_transitions}
+use Rattle.rsml_meaning.specs.Instances.{new_component, new_state, row_names, inside, row_inside, child_states}
 use Rattle.rsml_meaning.specs.Laws.{StatesAreOfChildren}
 use mathlib.Core.Former.{Count}
 
@@ -17,10 +16,6 @@ states_of_row g path n (more_of-StateDecl a z b others) =
 names_of_row : (n : _) (row : Row_of-StateDecl n) → row_names row ≡ map (λ (c : StateDecl). c.name) (items-the_row-StateDecl n row)
 names_of_row n end_of-StateDecl = refl
 names_of_row n (more_of-StateDecl a z b others) = ap (λ r. a ∷ r) (names_of_row _ others)
-
-transitions_of_row : (n : _) (row : Row_of-StateDecl n) → row_transitions row ≡ flat_map (λ (c : StateDecl). transitions_in c.body) (items-the_row-StateDecl n row)
-transitions_of_row n end_of-StateDecl = refl
-transitions_of_row n (more_of-StateDecl a z b others) = ap (λ r. transitions_in b ++ r) (transitions_of_row _ others)
 
 -- the row of children that a body has
 abbrev row_of : Body → (n : Count) × Row_of-StateDecl n
@@ -37,6 +32,4 @@ states_are_of_children g path f cs bs ts =
       inside_all = states_of_row g path all.0 all.1 ∙ ap (λ (xs : List StateDecl). flat_map (child_states g path) xs) (items_hidden-the_row-StateDecl-0 cs);
       is_component = ap (λ names. Some (new_component path f names bs ts)) (names_of_row one.0 one.1 ∙ ap (λ (xs : List StateDecl). map (λ (c : StateDecl). c.name) xs) (items_hidden-the_row-StateDecl-0 cs));
       is_none = refl;
-      written_in_one = ap (λ xs. xs ++ ts) (transitions_of_row one.0 one.1 ∙ ap (λ (xs : List StateDecl). flat_map (λ (c : StateDecl). transitions_in c.body) xs) (items_hidden-the_row-StateDecl-0 cs));
-      written_in_all = transitions_of_row all.0 all.1 ∙ ap (λ (xs : List StateDecl). flat_map (λ (c : StateDecl). transitions_in c.body) xs) (items_hidden-the_row-StateDecl-0 cs);
     }

@@ -6,9 +6,10 @@ use Rattle.rsml_syntax.specs.declared.syntax.Value.{Value}
 use Rattle.rsml_syntax.specs.declared.syntax.Value.TheVariants as values
 use Rattle.rsml_syntax.specs.declared.syntax.Answer.{Answer}
 use Rattle.rsml_syntax.specs.declared.syntax.Answer.TheVariants as answers
+use Rattle.rsml_syntax.specs.Comparisons.{Reading}
 use Rattle.rsml_meaning.specs.Words.{Instance}
 use Rattle.rsml_meaning.specs.Instances.{Component, components}
-use Rattle.rsml_meaning.specs.Truth.{View, view, Scope, within, sum, instance}
+use Rattle.rsml_meaning.specs.Truth.{View, view, within, sum, instance}
 use Rattle.rsml_meaning.specs.Transitions.{TransitionInstance}
 use Rattle.rsml_meaning.specs.Interfaces.{SendCaseInstance}
 use Rattle.rsml_meaning.specs.Steps.{outcomes, Sent, enabled_transitions, enabled_sends, raised_by, Round}
@@ -22,13 +23,13 @@ abbrev pub first_or : {A : Type 0} → A → List A → A
 first_or y [] = y
 first_or y (x ∷ xs) = x
 
-abbrev pub value_in : View → Scope → Value → ℤ
-value_in v sc (values.Sum x) = sum v sc x
-value_in v sc (values.Function f) = first_or (pos 0) (v.gives (instance v.names sc f))
+abbrev pub value_in : View → Reading → Value → ℤ
+value_in v r (values.Sum x) = sum v r x
+value_in v r (values.Function f) = first_or (pos 0) (v.gives (instance v.names r f))
 
-abbrev pub values_in : View → Scope → Answer → List ℤ
-values_in v sc answers.Quiet = []
-values_in v sc (answers.Values xs) = map (value_in v sc) xs
+abbrev pub values_in : View → Reading → Answer → List ℤ
+values_in v r answers.Quiet = []
+values_in v r (answers.Values xs) = map (value_in v r) xs
 
 abbrev pub sent_in : View → SendCaseInstance → Sent
 sent_in v c = record { send_case = c; values = values_in v (within c.send.index) c.answer }

@@ -8,10 +8,11 @@ use Rattle.rsml_syntax.specs.declared.syntax.Value.{Value}
 use Rattle.rsml_syntax.specs.declared.syntax.Value.TheVariants as values
 use Rattle.rsml_syntax.specs.declared.syntax.Answer.{Answer}
 use Rattle.rsml_syntax.specs.declared.syntax.Answer.TheVariants as answers
+use Rattle.rsml_syntax.specs.Comparisons.{Reading}
 use Rattle.rsml_meaning.specs.Words.{Each, IsOne, AllThree, Instance}
 use Rattle.rsml_meaning.specs.Instances.{Component, components}
 use Rattle.rsml_meaning.specs.Active.{child_place}
-use Rattle.rsml_meaning.specs.Truth.{View, view, Scope, within, instance, Gives}
+use Rattle.rsml_meaning.specs.Truth.{View, view, within, instance, Gives}
 use Rattle.rsml_meaning.specs.Transitions.{TransitionInstance}
 use Rattle.rsml_meaning.specs.Interfaces.{SendCaseInstance}
 use Rattle.rsml_meaning.specs.Steps.{Micro, Sent, IsValue, AreValues, outcomes, or_kept, given_by, enabled_transitions, enabled_sends, raised_by, IsStep}
@@ -28,17 +29,17 @@ gives_first : (v : View) (f : Instance) (xs : List ℤ) → v.gives f ≡ xs →
 gives_first v f [] e = inr (e, refl)
 gives_first v f (x ∷ xs) e = inl (subst (λ ys. IsOne x ys) (sym e) (inl refl))
 
-value_right : (v : View) (sc : Scope) (x : Value) → IsValue v sc x (value_in v sc x)
-value_right v sc (values.Sum x) = refl
-value_right v sc (values.Function f) = gives_first v (instance v.names sc f) (v.gives (instance v.names sc f)) refl
+value_right : (v : View) (r : Reading) (x : Value) → IsValue v r x (value_in v r x)
+value_right v r (values.Sum x) = refl
+value_right v r (values.Function f) = gives_first v (instance v.names r f) (v.gives (instance v.names r f)) refl
 
-values_right : (v : View) (sc : Scope) (xs : List Value) → AllZip (IsValue v sc) xs (map (value_in v sc) xs)
-values_right v sc [] = tt
-values_right v sc (x ∷ xs) = (value_right v sc x, values_right v sc xs)
+values_right : (v : View) (r : Reading) (xs : List Value) → AllZip (IsValue v r) xs (map (value_in v r) xs)
+values_right v r [] = tt
+values_right v r (x ∷ xs) = (value_right v r x, values_right v r xs)
 
-answer_right : (v : View) (sc : Scope) (x : Answer) → AreValues v sc x (values_in v sc x)
-answer_right v sc answers.Quiet = refl
-answer_right v sc (answers.Values xs) = values_right v sc xs
+answer_right : (v : View) (r : Reading) (x : Answer) → AreValues v r x (values_in v r x)
+answer_right v r answers.Quiet = refl
+answer_right v r (answers.Values xs) = values_right v r xs
 
 all_right : (v : View) (cs : List SendCaseInstance) → Each (λ q. AreValues v (within q.send_case.send.index) q.send_case.answer q.values) (map (sent_in v) cs)
 all_right v [] = tt
@@ -116,7 +117,7 @@ pub step_is : (n : ℕ) (s : Spec) (w : World) (e : Instance) (es : List Instanc
 step_is zero s w e es h ends = absurd (true≢false (sym ends))
 step_is (suc n) s w e es h ends =
     one_more n s w e es (raised_by s (taken_in s w (e ∷ es))) h refl ends
-      (λ f fs more. step_is n s (after s w (e ∷ es)) f fs (still_fit (taken_in s w (e ∷ es)) (components s) w.choices h) more)
+    (λ f fs more. step_is n s (after s w (e ∷ es)) f fs (still_fit (taken_in s w (e ∷ es)) (components s) w.choices h) more)
 
 left_fits : (n : ℕ) (s : Spec) (w : World) (present : List Instance) → fits (components s) w.choices ≡ true → fits (components s) (rounds_from n s w present).1.choices ≡ true
 left_fits zero s w [] h = h
@@ -129,9 +130,12 @@ pub run_is : (n : ℕ) (s : Spec) (w : World) (ms : List Message) → fits (comp
 run_is n s w [] h ends = tt
 run_is n s w (m ∷ ms) h ends =
     let first = first_so (ends_within n s (latched s w m) (m.receive.raised ∷ [])) (all_end n s (rounds_from n s (latched s w m) (m.receive.raised ∷ [])).1 ms) ends in
-    let rest = second_so (ends_within n s (latched s w m) (m.receive.raised ∷ [])) (all_end n s (rounds_from n s (latched s w m) (m.receive.raised ∷ [])).1 ms) ends in
-    (refl, (rounds_from n s (latched s w m) (m.receive.raised ∷ [])).1, step_is n s (latched s w m) m.receive.raised [] h first,
-      run_is n s (rounds_from n s (latched s w m) (m.receive.raised ∷ [])).1 ms (left_fits n s (latched s w m) (m.receive.raised ∷ []) h) rest)
+    let rest = second_so (ends_within n s (latched s w m) (m.receive.raised ∷ [])) (all_end n s (rounds_from n s (latched s w m) (m.receive.raised ∷ [])).1 ms) ends in (
+      refl,
+      (rounds_from n s (latched s w m) (m.receive.raised ∷ [])).1,
+      step_is n s (latched s w m) m.receive.raised [] h first,
+      run_is n s (rounds_from n s (latched s w m) (m.receive.raised ∷ [])).1 ms (left_fits n s (latched s w m) (m.receive.raised ∷ []) h) rest,
+    )
 
 -- the trace of the computed run is the trace of a run, where each step ends within 8 rounds
 pub traced : (s : Spec) (content : Bytes) (text : Text) → all_end 8 s (first_world s) (messages s (lines_of content)) ≡ true

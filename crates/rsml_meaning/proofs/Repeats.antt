@@ -35,7 +35,7 @@ front_linked s [] e r h = refl
 front_linked s (x ∷ []) e r h = both (leads s x e) true (first_so (leads s x e) (linked s (e ∷ r)) h) refl
 front_linked s (x ∷ y ∷ a) e r h =
     both (leads s x y) (linked s (y ∷ (a ++ (e ∷ [])))) (first_so (leads s x y) (linked s (y ∷ (a ++ (e ∷ r)))) h)
-      (front_linked s (y ∷ a) e r (second_so (leads s x y) (linked s (y ∷ (a ++ (e ∷ r)))) h))
+    (front_linked s (y ∷ a) e r (second_so (leads s x y) (linked s (y ∷ (a ++ (e ∷ r)))) h))
 
 back_linked : (s : Spec) (a : List Instance) (e : Instance) (r : List Instance) → linked s (a ++ (e ∷ r)) ≡ true → linked s (e ∷ r) ≡ true
 back_linked s [] e r h = h
@@ -47,7 +47,7 @@ join_linked s [] e r h k = k
 join_linked s (x ∷ []) e r h k = both (leads s x e) (linked s (e ∷ r)) (first_so (leads s x e) true h) k
 join_linked s (x ∷ y ∷ a) e r h k =
     both (leads s x y) (linked s (y ∷ (a ++ (e ∷ r)))) (first_so (leads s x y) (linked s (y ∷ (a ++ (e ∷ [])))) h)
-      (join_linked s (y ∷ a) e r (second_so (leads s x y) (linked s (y ∷ (a ++ (e ∷ [])))) h) k)
+    (join_linked s (y ∷ a) e r (second_so (leads s x y) (linked s (y ∷ (a ++ (e ∷ [])))) h) k)
 
 -- k times round
 abbrev rounds : Instance → List Instance → ℕ → List Instance
@@ -71,12 +71,12 @@ begins_alike : (s : Spec) (x : Instance) (a : List Instance) (e : Instance) (r q
     → IsChainFrom s x (a ++ (e ∷ r)) → linked s (a ++ (e ∷ q)) ≡ true → IsChainFrom s x (a ++ (e ∷ q))
 begins_alike s x [] e r q h k =
     both (is_chain s (e ∷ q)) (same_instance x e)
-      (both (is_external s e) (linked s (e ∷ q)) (first_so (is_external s e) (linked s (e ∷ r)) (first_so (is_chain s (e ∷ r)) (same_instance x e) h)) k)
-      (second_so (is_chain s (e ∷ r)) (same_instance x e) h)
+    (both (is_external s e) (linked s (e ∷ q)) (first_so (is_external s e) (linked s (e ∷ r)) (first_so (is_chain s (e ∷ r)) (same_instance x e) h)) k)
+    (second_so (is_chain s (e ∷ r)) (same_instance x e) h)
 begins_alike s x (y ∷ a) e r q h k =
     both (is_chain s (y ∷ (a ++ (e ∷ q)))) (same_instance x y)
-      (both (is_external s y) (linked s (y ∷ (a ++ (e ∷ q)))) (first_so (is_external s y) (linked s (y ∷ (a ++ (e ∷ r)))) (first_so (is_chain s (y ∷ (a ++ (e ∷ r)))) (same_instance x y) h)) k)
-      (second_so (is_chain s (y ∷ (a ++ (e ∷ r)))) (same_instance x y) h)
+    (both (is_external s y) (linked s (y ∷ (a ++ (e ∷ q)))) (first_so (is_external s y) (linked s (y ∷ (a ++ (e ∷ r)))) (first_so (is_chain s (y ∷ (a ++ (e ∷ r)))) (same_instance x y) h)) k)
+    (second_so (is_chain s (y ∷ (a ++ (e ∷ r)))) (same_instance x y) h)
 
 chain_linked : (s : Spec) (x : Instance) (es : List Instance) → IsChainFrom s x es → linked s es ≡ true
 chain_linked s x [] h = refl
@@ -96,7 +96,7 @@ twice_is_unbounded s x n es e most h twice =
     let one = cut e 1 es twice in
     let two = cut e 0 one.after one.more in
     too_long s x n e one.before two.before two.after most
-      (subst (λ fs. IsChainFrom s x fs) (one.is ∙ ap (λ fs. one.before ++ (e ∷ fs)) two.is) h)
+    (subst (λ fs. IsChainFrom s x fs) (one.is ∙ ap (λ fs. one.before ++ (e ∷ fs)) two.is) h)
 
 pub length_excludes_endless : LengthExcludesEndless
 length_excludes_endless s x n l endless = twice_is_unbounded s x n endless.0 endless.1 l.most endless.2 endless.3

@@ -20,10 +20,11 @@ use Rattle.rsml_syntax.specs.Names.{Name, same, is_in}
 use Rattle.rsml_syntax.specs.Relations.{compare}
 use Rattle.rsml_syntax.specs.Tables.{table_truth}
 use Rattle.rsml_meaning.specs.Words.{Instance, at, IsOne}
-use Rattle.rsml_meaning.specs.Instances.{indices}
-use Rattle.rsml_meaning.specs.Written.{body_of}
-use Rattle.rsml_meaning.specs.Truth.{View, view, learn, bare, within, Scope, index_of, instance, simple, phrase, table, row_truth, guard, values_given, sum, quantified}
-use Rattle.rsml_meaning.specs.InOrder.{used_by_simple, used_by_rows, used_by_guard, used_by_cases, may_declare, in_order, IsInOrder}
+use Rattle.rsml_syntax.specs.Globals.{indices}
+use Rattle.rsml_syntax.specs.Comparisons.{Reading, index_number}
+use Rattle.rsml_syntax.specs.Written.{simple_of, rows_of}
+use Rattle.rsml_meaning.specs.Truth.{View, view, learn, bare, within, instance, simple, phrase, table, row_truth, guard, values_given, sum, quantified}
+use Rattle.rsml_meaning.specs.InOrder.{used_by_simple, used_by_rows, used_by_cases, may_declare, in_order, IsInOrder}
 use Rattle.rsml_meaning.specs.Laws.{MacrosAreTheirTables, FunctionsAreTheirCases, compares_so}
 use Rattle.rsml_meaning.proofs.Same.{name_same, name_itself}
 
@@ -88,37 +89,37 @@ module _ (K : List Name) (v : View) (h : Instance → Bool) (g : Instance → Li
   abbrev w : View
   w = with_known v h g
 
-  simple_same : (sc : Scope) (b : Simple) → all_in K (used_by_simple b) ≡ true → simple v sc b ≡ simple w sc b
-  simple_same sc (simples.In path) k = refl
-  simple_same sc (simples.Macro m) k = same_holds (instance v.names sc m) (first_so (is_in m.name K) true k)
-  simple_same sc (simples.Compare l r right) k = refl
-  simple_same sc (simples.Function f r right) k = ap (λ xs. list_any (λ x. compare r x (sum v sc right)) xs) (same_gives (instance v.names sc f) (first_so (is_in f.name K) true k))
+  simple_same : (r : Reading) (b : Simple) → all_in K (used_by_simple b) ≡ true → simple v r b ≡ simple w r b
+  simple_same r (simples.In path) k = refl
+  simple_same r (simples.Macro m) k = same_holds (instance v.names r m) (first_so (is_in m.name K) true k)
+  simple_same r (simples.Compare left relation right) k = refl
+  simple_same r (simples.Function f relation right) k = ap (λ xs. list_any (λ x. compare relation x (sum v r right)) xs) (same_gives (instance v.names r f) (first_so (is_in f.name K) true k))
 
-  phrase_same : (sc : Scope) (p : Phrase) → all_in K (used_by_simple (body_of p)) ≡ true → phrase v sc p ≡ phrase w sc p
-  phrase_same sc (phrases.Plain b) k = simple_same sc b k
-  phrase_same sc (phrases.Any x n b) k = any_same (λ i. simple v (quantified sc x i) b) (λ i. simple w (quantified sc x i) b) (λ i. simple_same (quantified sc x i) b k) (indices v.names (Some n))
-  phrase_same sc (phrases.Every x n b) k = every_same (λ i. simple v (quantified sc x i) b) (λ i. simple w (quantified sc x i) b) (λ i. simple_same (quantified sc x i) b k) (indices v.names (Some n))
+  phrase_same : (r : Reading) (p : Phrase) → all_in K (used_by_simple (simple_of p)) ≡ true → phrase v r p ≡ phrase w r p
+  phrase_same r (phrases.Plain b) k = simple_same r b k
+  phrase_same r (phrases.Any x n b) k = any_same (λ i. simple v (quantified r x i) b) (λ i. simple w (quantified r x i) b) (λ i. simple_same (quantified r x i) b k) (indices v.names (Some n))
+  phrase_same r (phrases.Every x n b) k = every_same (λ i. simple v (quantified r x i) b) (λ i. simple w (quantified r x i) b) (λ i. simple_same (quantified r x i) b k) (indices v.names (Some n))
 
-  rows_same : (sc : Scope) (rows : List Row) → all_in K (used_by_rows rows) ≡ true → map (row_truth v sc) rows ≡ map (row_truth w sc) rows
-  rows_same sc [] k = refl
-  rows_same sc (r ∷ rows) k =
-      let a = phrase_same sc r.phrase (all_front (λ x. is_in x K) (used_by_simple (body_of r.phrase)) (used_by_rows rows) k) in
-      let b = rows_same sc rows (all_back (λ x. is_in x K) (used_by_simple (body_of r.phrase)) (used_by_rows rows) k) in
-      λ i. (a i, r.cells) ∷ b i
+  rows_same : (r : Reading) (rows : List Row) → all_in K (used_by_rows rows) ≡ true → map (row_truth v r) rows ≡ map (row_truth w r) rows
+  rows_same r [] k = refl
+  rows_same r (row ∷ rows) k =
+      let a = phrase_same r row.phrase (all_front (λ x. is_in x K) (used_by_simple (simple_of row.phrase)) (used_by_rows rows) k) in
+      let b = rows_same r rows (all_back (λ x. is_in x K) (used_by_simple (simple_of row.phrase)) (used_by_rows rows) k) in
+      λ i. (a i, row.cells) ∷ b i
 
-  pub table_same : (sc : Scope) (rows : List Row) → all_in K (used_by_rows rows) ≡ true → table v sc rows ≡ table w sc rows
-  table_same sc rows k = ap table_truth (rows_same sc rows k)
+  pub table_same : (r : Reading) (rows : List Row) → all_in K (used_by_rows rows) ≡ true → table v r rows ≡ table w r rows
+  table_same r rows k = ap table_truth (rows_same r rows k)
 
-  guard_same : (sc : Scope) (x : Guard) → all_in K (used_by_guard x) ≡ true → guard v sc x ≡ guard w sc x
-  guard_same sc guards.Always k = refl
-  guard_same sc (guards.Table rows) k = table_same sc rows k
+  guard_same : (r : Reading) (x : Guard) → all_in K (used_by_rows (rows_of x)) ≡ true → guard v r x ≡ guard w r x
+  guard_same r guards.Always k = refl
+  guard_same r (guards.Table rows) k = table_same r rows k
 
-  pub values_same : (sc : Scope) (cases : List Case) → all_in K (used_by_cases cases) ≡ true → values_given v sc cases ≡ values_given w sc cases
-  values_same sc [] k = refl
-  values_same sc (c ∷ cases) k =
-      let a = guard_same sc c.guard (all_front (λ x. is_in x K) (used_by_guard c.guard) (used_by_cases cases) k) in
-      let b = values_same sc cases (all_back (λ x. is_in x K) (used_by_guard c.guard) (used_by_cases cases) k) in
-      λ i. (if a i then sum v sc c.value ∷ [] else []) ++ b i
+  pub values_same : (r : Reading) (cases : List Case) → all_in K (used_by_cases cases) ≡ true → values_given v r cases ≡ values_given w r cases
+  values_same r [] k = refl
+  values_same r (c ∷ cases) k =
+      let a = guard_same r c.guard (all_front (λ x. is_in x K) (used_by_rows (rows_of c.guard)) (used_by_cases cases) k) in
+      let b = values_same r cases (all_back (λ x. is_in x K) (used_by_rows (rows_of c.guard)) (used_by_cases cases) k) in
+      λ i. (if a i then sum v r c.value ∷ [] else []) ++ b i
 
 -- What later declarations leave as it was.
 
@@ -233,26 +234,26 @@ function_says K x size cases i (d ∷ ds) v h (inr m) = function_says K x size c
 -- The laws.
 
 pub macros_are_their_tables : MacrosAreTheirTables
-macros_are_their_tables s w h sc m size rows one = macro_says [] m.name size rows (index_of (view s w).names sc m.index) s.decls (bare s w) h one
+macros_are_their_tables s w h r m size rows one = macro_says [] m.name size rows (index_number (view s w).names r m.index) s.decls (bare s w) h one
 
 -- a function gives the values of its cases with a true guard
 pub functions_give_their_cases : (s : Spec) (w : World) → IsInOrder s → (name : Name) (i : ℕ) (size : Option Amount) (cases : List Case) → IsOne (decl.Function name size cases) s.decls
     → (view s w).gives (at name i) ≡ values_given (view s w) (within i) cases
 functions_give_their_cases s w h name i size cases one = function_says [] name size cases i s.decls (bare s w) h one
 
-any_value : (v : View) (sc : Scope) (relation : Relation) (n : ℤ) (cases : List Case)
-    → list_any (λ x. compare relation x n) (values_given v sc cases) ≡ list_any (compares_so v sc relation n) cases
-any_value v sc relation n [] = refl
-any_value v sc relation n (c ∷ cases) = by_guard (guard v sc c.guard) (any_value v sc relation n cases)
+any_value : (v : View) (r : Reading) (relation : Relation) (n : ℤ) (cases : List Case)
+    → list_any (λ x. compare relation x n) (values_given v r cases) ≡ list_any (compares_so v r relation n) cases
+any_value v r relation n [] = refl
+any_value v r relation n (c ∷ cases) = by_guard (guard v r c.guard) (any_value v r relation n cases)
   where
-    by_guard : (b : Bool) → list_any (λ x. compare relation x n) (values_given v sc cases) ≡ list_any (compares_so v sc relation n) cases
-        → list_any (λ x. compare relation x n) ((if b then sum v sc c.value ∷ [] else []) ++ values_given v sc cases)
-          ≡ ((b && compare relation (sum v sc c.value) n) || list_any (compares_so v sc relation n) cases)
-    by_guard true e = ap (λ b. compare relation (sum v sc c.value) n || b) e
+    by_guard : (b : Bool) → list_any (λ x. compare relation x n) (values_given v r cases) ≡ list_any (compares_so v r relation n) cases
+        → list_any (λ x. compare relation x n) ((if b then sum v r c.value ∷ [] else []) ++ values_given v r cases)
+        ≡ ((b && compare relation (sum v r c.value) n) || list_any (compares_so v r relation n) cases)
+    by_guard true e = ap (λ b. compare relation (sum v r c.value) n || b) e
     by_guard false e = e
 
 pub functions_are_their_cases : FunctionsAreTheirCases
-functions_are_their_cases s w h sc f size cases relation right one =
-    let i = index_of (view s w).names sc f.index in
-    ap (λ xs. list_any (λ x. compare relation x (sum (view s w) sc right)) xs) (functions_give_their_cases s w h f.name i size cases one)
-    ∙ any_value (view s w) (within i) relation (sum (view s w) sc right) cases
+functions_are_their_cases s w h r f size cases relation right one =
+    let i = index_number (view s w).names r f.index in
+    ap (λ xs. list_any (λ x. compare relation x (sum (view s w) r right)) xs) (functions_give_their_cases s w h f.name i size cases one)
+    ∙ any_value (view s w) (within i) relation (sum (view s w) r right) cases

@@ -97,5 +97,5 @@ verdict_is s group (none w) h = least_is s group (nat_eq 0) (λ n. n ≡ 0) w no
 verdict_is s group (two w) h = (
   λ v e. none_passes s (enables s group (nat_eq 0)) (first_so (in_none s (enables s group (nat_eq 0))) (in_least s (enables s group (nat_le 2)) w) h) v e.is_world
       (enables_back s group (nat_eq 0) (λ n. n ≡ 0) v none_test e),
-  least_is s group (nat_le 2) (λ n. 2 ≤ n) w two_test (second_so (in_none s (enables s group (nat_eq 0))) (in_least s (enables s group (nat_le 2)) w) h)
+  least_is s group (nat_le 2) (λ n. 2 ≤ n) w two_test (second_so (in_none s (enables s group (nat_eq 0))) (in_least s (enables s group (nat_le 2)) w) h),
 )

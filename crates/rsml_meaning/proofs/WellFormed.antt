@@ -131,7 +131,7 @@ both_each P Q (x ∷ xs) h k = ((h.0, k.0), both_each P Q xs h.1 k.1)
 each_without : (s : Spec) (limits : Limits) (content : Bytes) → IsWellFormed s limits content → Each (λ l. fault_at s limits (length content) l ≡ None) (lines_of content)
 each_without s limits content w =
     each_map (λ l p. kept_has_none s limits (length content) l (record { short = not_long limits l p.0; whole = not_cut limits (length content) l w.short; kept = p.1 }))
-      (lines_of content) (both_each (λ l. length l.bytes ≤ limits.line) (λ l. rule_broken s l ≡ None) (lines_of content) w.short_lines w.kept)
+    (lines_of content) (both_each (λ l. length l.bytes ≤ limits.line) (λ l. rule_broken s l ≡ None) (lines_of content) w.short_lines w.kept)
 
 pub well_formed_has_no_fault : WellFormedHasNoFault
 well_formed_has_no_fault s limits content =

@@ -2,7 +2,7 @@
 use Rattle.std.specs.Prelude.{◌≡◌, ℕ, suc, ◌+◌, ◌≤◌, Bool, true, false, ◌&&◌, List, [], ◌∷◌, length, Option, Some, None, if◌then◌else◌, ◌==◌, nat_lt, nat_le, is_none, filter_map, take_while}
 use Rattle.rsml_syntax.specs.declared.syntax.Spec.{Spec}
 use Rattle.rsml_meaning.specs.Words.{first_some, Each}
-use Rattle.rsml_meaning.specs.EventLines.{Bytes, pieces, is_skipped, LineRule, Message, Reading, breaks, tells, read_line}
+use Rattle.rsml_meaning.specs.EventLines.{Bytes, pieces, is_skipped, LineRule, Message, Outcome, breaks, tells, read_line}
 
 -- Lines.
 
@@ -39,16 +39,16 @@ without_return (c ∷ []) = if c == 13 then [] else c ∷ []
 without_return (c ∷ d ∷ cs) = c ∷ without_return (d ∷ cs)
 
 -- what a line says; nothing where it is skipped
-abbrev pub reading : Spec → Line → Option Reading
-reading s line = if is_skipped (without_return line.bytes) then None else Some (read_line s (without_return line.bytes))
+abbrev pub outcome : Spec → Line → Option Outcome
+outcome s line = if is_skipped (without_return line.bytes) then None else Some (read_line s (without_return line.bytes))
 
 -- the rule that a line breaks
 abbrev pub rule_broken : Spec → Line → Option LineRule
-rule_broken s line = elim (reading s line) [ Some (breaks rule) ↦ Some rule | _ ↦ None ]
+rule_broken s line = elim (outcome s line) [ Some (breaks rule) ↦ Some rule | _ ↦ None ]
 
 -- the event that a line tells
 abbrev pub message : Spec → Line → Option Message
-message s line = elim (reading s line) [ Some (tells m) ↦ Some m | _ ↦ None ]
+message s line = elim (outcome s line) [ Some (tells m) ↦ Some m | _ ↦ None ]
 
 -- Faults.
 

@@ -9,7 +9,7 @@ use Rattle.rsml_syntax.specs.declared.syntax.Decl.TheVariants as decl
 use Rattle.rsml_syntax.specs.Names.{Name, same, place_of}
 use Rattle.rsml_syntax.specs.Globals.{Globals, Known, meaning, many}
 use Rattle.rsml_meaning.specs.Instances.{globals_of}
-use Rattle.rsml_meaning.specs.Cells.{Kind, input_kind, is_of}
+use Rattle.rsml_meaning.specs.Cells.{InputType, input_type, is_of}
 use Rattle.rsml_meaning.specs.Interfaces.{ReceiveInstance, new_receive}
 
 abbrev pub Bytes : Type 0
@@ -62,7 +62,7 @@ signed_number [] = None
 signed_number (c ∷ cs) = if c == 45 then option_map (λ n. neg_ℤ (pos n)) (digits_number cs) else option_map pos (digits_number (c ∷ cs))
 
 -- the number of a value, by the form that the type asks for: digits for a range, one of the names for an enumeration
-abbrev pub value_number : Kind × Bytes → Option ℤ
+abbrev pub value_number : InputType × Bytes → Option ℤ
 value_number x = elim x.0.names [ [] ↦ signed_number x.1 | n ∷ ns ↦ option_map pos (place_of x.1 (n ∷ ns)) ]
 
 -- all of them, or none where one is missing
@@ -151,35 +151,35 @@ pub record Message : Type 0 where
   pub numbers : List ℤ
 
 -- what a line comes to: the lowest rule that it breaks, or an event
-pub data Reading : Type 0 where
-  breaks : LineRule → Reading
-  tells : Message → Reading
+pub data Outcome : Type 0 where
+  breaks : LineRule → Outcome
+  tells : Message → Outcome
 
 -- the values are read by the types of their inputs
-abbrev pub read_values : List Kind → ReceiveInstance → List Bytes → Reading
-read_values kinds receive values = elim (all_some (map value_number (zip kinds values))) [
+abbrev pub read_values : List InputType → ReceiveInstance → List Bytes → Outcome
+read_values types receive values = elim (all_some (map value_number (zip types values))) [
   | None ↦ breaks E6
-  | Some numbers ↦ if list_all (λ x. is_of x.0 x.1) (zip kinds numbers) then tells (record { receive = receive; numbers = numbers }) else breaks E7
+  | Some numbers ↦ if list_all (λ x. is_of x.0 x.1) (zip types numbers) then tells (record { receive = receive; numbers = numbers }) else breaks E7
 ]
 
 -- the words after the first are the fields, and no more
-abbrev pub read_fields : Globals → List Name → ReceiveInstance → List Bytes → Reading
+abbrev pub read_fields : Globals → List Name → ReceiveInstance → List Bytes → Outcome
 read_fields g inputs receive words = elim (fields inputs words) [
   | None ↦ breaks E4
-  | Some f ↦ elim f.more [ [] ↦ read_values (map (input_kind g) inputs) receive f.values | word ∷ more ↦ breaks E5 ]
+  | Some f ↦ elim f.more [ [] ↦ read_values (map (input_type g) inputs) receive f.values | word ∷ more ↦ breaks E5 ]
 ]
 
 -- the first word tells the instance of a receive
-abbrev pub read_instance : Globals → Bytes → Interface → List Bytes → Reading
+abbrev pub read_instance : Globals → Bytes → Interface → List Bytes → Outcome
 read_instance g word i words = elim (index_told g i.size (index_part word)) [
   | None ↦ breaks E3
   | Some index ↦ read_fields g (map (λ m. m.name) i.inputs) (new_receive g (name_part word) i.inputs i.raised index) words
 ]
 
-abbrev pub read_words : Globals → List Bytes → Reading
+abbrev pub read_words : Globals → List Bytes → Outcome
 read_words g [] = breaks E2
 read_words g (word ∷ words) = elim (interface g (name_part word)) [ None ↦ breaks E2 | Some i ↦ read_instance g word i words ]
 
 -- what a line without its line end comes to, where it is not skipped
-abbrev pub read_line : Spec → Bytes → Reading
+abbrev pub read_line : Spec → Bytes → Outcome
 read_line s line = if is_utf8 line then read_words (globals_of s) (words line) else breaks E1

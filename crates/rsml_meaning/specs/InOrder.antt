@@ -8,10 +8,8 @@ use Rattle.rsml_syntax.specs.declared.syntax.Simple.{Simple}
 use Rattle.rsml_syntax.specs.declared.syntax.Simple.TheVariants as simples
 use Rattle.rsml_syntax.specs.declared.syntax.Row.{Row}
 use Rattle.rsml_syntax.specs.declared.syntax.Case.{Case}
-use Rattle.rsml_syntax.specs.declared.syntax.Guard.{Guard}
-use Rattle.rsml_syntax.specs.declared.syntax.Guard.TheVariants as guards
 use Rattle.rsml_syntax.specs.Names.{Name, is_in}
-use Rattle.rsml_meaning.specs.Written.{body_of}
+use Rattle.rsml_syntax.specs.Written.{simple_of, rows_of}
 
 -- the names of the macros and functions that are used
 
@@ -21,14 +19,10 @@ used_by_simple (simples.Function f relation right) = f.name ∷ []
 used_by_simple _ = []
 
 abbrev pub used_by_rows : List Row → List Name
-used_by_rows rows = flat_map (λ row. used_by_simple (body_of row.phrase)) rows
-
-abbrev pub used_by_guard : Guard → List Name
-used_by_guard guards.Always = []
-used_by_guard (guards.Table rows) = used_by_rows rows
+used_by_rows rows = flat_map (λ row. used_by_simple (simple_of row.phrase)) rows
 
 abbrev pub used_by_cases : List Case → List Name
-used_by_cases cases = flat_map (λ c. used_by_guard c.guard) cases
+used_by_cases cases = flat_map (λ c. used_by_rows (rows_of c.guard)) cases
 
 -- these names are all known, and this one is not
 abbrev pub may_declare : List Name → Name → List Name → Bool

@@ -1,5 +1,5 @@
 -- The instances of states, components and events, in the order of the text; arrays by rising index.
-use Rattle.std.specs.Prelude.{ℕ, List, [], ◌∷◌, ◌++◌, map, Option, Some, None, flat_map, filter_map}
+use Rattle.std.specs.Prelude.{List, [], ◌∷◌, ◌++◌, map, Option, Some, None, flat_map, filter_map}
 use Rattle.rsml_syntax.specs.declared.syntax.Spec.{Spec}
 use Rattle.rsml_syntax.specs.declared.syntax.Decl.{Decl}
 use Rattle.rsml_syntax.specs.declared.syntax.Decl.TheVariants as decl
@@ -9,17 +9,12 @@ use Rattle.rsml_syntax.specs.declared.syntax.Transition.{Transition}
 use Rattle.rsml_syntax.specs.declared.syntax.StateDecl.{StateDecl}
 use Rattle.rsml_syntax.specs.declared.syntax.Body.{Body, Basic, One', All', Row_of-StateDecl, end_of-StateDecl, more_of-StateDecl}
 use Rattle.rsml_syntax.specs.Names.{Name}
-use Rattle.rsml_syntax.specs.Globals.{Globals, globals, many}
-use Rattle.rsml_meaning.specs.Words.{Instance, at, Path, child_path, upto}
+use Rattle.rsml_syntax.specs.Globals.{Globals, globals, indices}
+use Rattle.rsml_meaning.specs.Words.{Instance, at, Path, child_path}
 
 -- the global names of a specification
 abbrev pub globals_of : Spec → Globals
 globals_of s = globals s.decls
-
--- the indices of what is declared with this size: 1 to the size, or 0 alone where there is none
-abbrev pub indices : Globals → Option Amount → List ℕ
-indices g None = 0 ∷ []
-indices g (Some amount) = upto (many g (Some amount))
 
 -- the instances of a name that is declared with this size
 abbrev pub instances : Globals → Name → Option Amount → List Instance

@@ -9,9 +9,9 @@ use Rattle.rsml_syntax.specs.declared.syntax.Case.{Case}
 use Rattle.rsml_syntax.specs.declared.syntax.SendCase.{SendCase}
 use Rattle.rsml_syntax.specs.declared.syntax.Answer.{Answer}
 use Rattle.rsml_syntax.specs.Names.{Name}
-use Rattle.rsml_syntax.specs.Globals.{Globals}
+use Rattle.rsml_syntax.specs.Globals.{Globals, indices}
 use Rattle.rsml_meaning.specs.Words.{Instance, at, same_instance, numbered}
-use Rattle.rsml_meaning.specs.Instances.{globals_of, indices, instances}
+use Rattle.rsml_meaning.specs.Instances.{globals_of, instances}
 use Rattle.rsml_meaning.specs.Truth.{View, within, instance, guard}
 
 -- Receives.

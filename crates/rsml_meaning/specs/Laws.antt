@@ -1,5 +1,5 @@
 -- Laws of the definitions. Each is the contract of a function with no body.
-use Rattle.std.specs.Prelude.{◌≡◌, ℕ, Bool, false, ◌&&◌, List, ◌++◌, map, flat_map, Option, Some, None, ℤ, ◌↔◌}
+use Rattle.std.specs.Prelude.{◌≡◌, ℕ, Bool, false, ◌&&◌, List, map, flat_map, Option, Some, None, ℤ, ◌↔◌}
 use Rattle.std.specs.List.{list_any}
 use Rattle.std.specs.Cmp.{IsTotalOrder}
 use Rattle.std.specs.declared.cmp.Ordering.TheVariants.{Equal}
@@ -19,13 +19,13 @@ use Rattle.rsml_syntax.specs.declared.syntax.StateDecl.{StateDecl}
 use Rattle.rsml_syntax.specs.declared.syntax.Body.{One, All}
 use Rattle.rsml_syntax.specs.Names.{Name}
 use Rattle.rsml_syntax.specs.Globals.{Globals}
+use Rattle.rsml_syntax.specs.Comparisons.{Reading, index_number}
 use Rattle.rsml_syntax.specs.Relations.{compare}
 use Rattle.rsml_meaning.specs.Words.{Instance, Path, on_one_line, IsOne}
 use Rattle.rsml_meaning.specs.Instances.{new_component, component_of, inside, child_states}
-use Rattle.rsml_meaning.specs.Written.{transitions_in}
 use Rattle.rsml_meaning.specs.Worlds.{world_cmp}
 use Rattle.rsml_meaning.specs.Active.{enter}
-use Rattle.rsml_meaning.specs.Truth.{View, view, Scope, within, index_of, simple, table, guard, sum}
+use Rattle.rsml_meaning.specs.Truth.{View, view, within, simple, table, guard, sum}
 use Rattle.rsml_meaning.specs.InOrder.{IsInOrder}
 use Rattle.rsml_meaning.specs.Groups.{Group}
 use Rattle.rsml_meaning.specs.Chains.{IsLength, Endless}
@@ -37,16 +37,14 @@ use Rattle.rsml_meaning.specs.Report.{IsReport}
 
 -- States.
 
--- What a state is and has inside, by the list of its children.
+-- The states inside a state, and its component, by the list of its children.
 pub record StatesOfChildren (g : Globals) (path : Path) (first : Name) (children : List StateDecl) (buses : List Bus) (transitions : List Transition) : Type 0 where
   pub inside_one : inside g (One first children buses transitions) path ≡ flat_map (child_states g path) children
   pub inside_all : inside g (All children) path ≡ flat_map (child_states g path) children
   pub is_component : component_of (One first children buses transitions) path ≡ Some (new_component path first (map (λ c. c.name) children) buses transitions)
   pub is_none : component_of (All children) path ≡ None
-  pub written_in_one : transitions_in (One first children buses transitions) ≡ flat_map (λ c. transitions_in c.body) children ++ transitions
-  pub written_in_all : transitions_in (All children) ≡ flat_map (λ c. transitions_in c.body) children
 
--- a state's instances, its component and its transitions are those of its children, in order
+-- the states inside a state and its component are those of its children, in order
 abbrev pub StatesAreOfChildren : Type 0
 StatesAreOfChildren = (g : Globals) (path : Path) (first : Name) (children : List StateDecl) (buses : List Bus) (transitions : List Transition)
     → StatesOfChildren g path first children buses transitions
@@ -70,20 +68,20 @@ MovesApartCommute = (s : Spec) (p q target other : Path) (choices : List ℕ) �
 
 -- a phrase that names a macro is true exactly where that instance's table is
 abbrev pub MacrosAreTheirTables : Type 0
-MacrosAreTheirTables = (s : Spec) (w : World) → IsInOrder s → (sc : Scope) (m : Mention) (size : Option Amount) (rows : List Row)
+MacrosAreTheirTables = (s : Spec) (w : World) → IsInOrder s → (r : Reading) (m : Mention) (size : Option Amount) (rows : List Row)
     → IsOne (decl.Macro m.name size rows) s.decls
-    → simple (view s w) sc (simples.Macro m) ≡ table (view s w) (within (index_of (view s w).names sc m.index)) rows
+    → simple (view s w) r (simples.Macro m) ≡ table (view s w) (within (index_number (view s w).names r m.index)) rows
 
 -- a case with a true guard has a value that compares so
-abbrev pub compares_so : View → Scope → Relation → ℤ → Case → Bool
-compares_so v sc relation n c = guard v sc c.guard && compare relation (sum v sc c.value) n
+abbrev pub compares_so : View → Reading → Relation → ℤ → Case → Bool
+compares_so v r relation n c = guard v r c.guard && compare relation (sum v r c.value) n
 
 -- a function that is compared is true exactly where some case with a true guard has a value that compares so
 abbrev pub FunctionsAreTheirCases : Type 0
-FunctionsAreTheirCases = (s : Spec) (w : World) → IsInOrder s → (sc : Scope) (f : Mention) (size : Option Amount) (cases : List Case) (relation : Relation) (right : Sum)
+FunctionsAreTheirCases = (s : Spec) (w : World) → IsInOrder s → (r : Reading) (f : Mention) (size : Option Amount) (cases : List Case) (relation : Relation) (right : Sum)
     → IsOne (decl.Function f.name size cases) s.decls
-    → simple (view s w) sc (simples.Function f relation right)
-      ≡ list_any (compares_so (view s w) (within (index_of (view s w).names sc f.index)) relation (sum (view s w) sc right)) cases
+    → simple (view s w) r (simples.Function f relation right)
+    ≡ list_any (compares_so (view s w) (within (index_number (view s w).names r f.index)) relation (sum (view s w) r right)) cases
 
 -- Chains and reports.
 

@@ -19,4 +19,3 @@ pub mod Transitions
 pub mod Truth
 pub mod Words
 pub mod Worlds
-pub mod Written

@@ -108,7 +108,7 @@ choice_line c = if c.1 == 0 then [] else text_line (codes "  in " ++ (path_text 
 
 -- nothing where the cell has its least number
 abbrev pub cell_line : InputCell × ℤ → Text
-cell_line c = if int_eq c.1 c.0.kind.low then [] else text_line (codes "  " ++ (cell_text c.0 ++ (codes " = " ++ (value_text c.0.kind.names c.1 ++ codes " | T"))))
+cell_line c = if int_eq c.1 c.0.numbers.low then [] else text_line (codes "  " ++ (cell_text c.0 ++ (codes " = " ++ (value_text c.0.numbers.names c.1 ++ codes " | T"))))
 
 abbrev pub world_text : Spec → World → Text
 world_text s w = flat_map choice_line (zip (components s) w.choices) ++ flat_map cell_line (zip (cells s) w.cells)

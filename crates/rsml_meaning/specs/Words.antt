@@ -1,5 +1,5 @@
 -- Words on instances, paths and lists.
-use Rattle.std.specs.Prelude.{◌≡◌, ℕ, zero, suc, Bool, true, false, ◌&&◌, ◌||◌, ◌⊎◌, List, [], ◌∷◌, ◌++◌, length, Option, Some, None, nat_eq, nat_lt, ⊤}
+use Rattle.std.specs.Prelude.{◌≡◌, ℕ, suc, Bool, true, false, ◌&&◌, ◌||◌, ◌⊎◌, List, [], ◌∷◌, ◌++◌, length, Option, Some, None, nat_eq, nat_lt, ⊤}
 use Rattle.std.specs.List.{list_any, position_from}
 use Rattle.rsml_syntax.specs.Names.{Name, same}
 use Rattle.rsml_syntax.specs.declared.world.Step.{Step}
@@ -44,11 +44,6 @@ same_path p q = is_prefix p q && is_prefix q p
 -- one is the other or a prefix of it
 abbrev pub on_one_line : Path → Path → Bool
 on_one_line p q = is_prefix p q || is_prefix q p
-
--- 1 to n
-abbrev pub upto : ℕ → List ℕ
-upto zero = []
-upto (suc n) = upto n ++ (suc n ∷ [])
 
 -- the first that there is
 abbrev pub first_some : {A B : Type 0} → (A → Option B) → List A → Option B

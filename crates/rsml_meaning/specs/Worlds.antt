@@ -16,7 +16,7 @@ is_choice c place = nat_lt place (length c.children)
 
 -- one child for each component, and for each cell a number of its type
 abbrev pub is_world : Spec → World → Bool
-is_world s w = pointwise is_choice (components s) w.choices && pointwise (λ c n. is_of c.kind n) (cells s) w.cells
+is_world s w = pointwise is_choice (components s) w.choices && pointwise (λ c n. is_of c.numbers n) (cells s) w.cells
 
 abbrev pub IsWorld : Spec → World → Type 0
 IsWorld s w = IsTrue (is_world s w)

@@ -3,17 +3,17 @@ use Rattle.std.specs.Prelude.{◌≡◌, refl, List, [], ◌∷◌, map, Option,
 use Rattle.std.specs.Str.{is_utf8, chars}
 use Prim.Native.String.{String}
 use Rattle.rsml_syntax.specs.declared.syntax.Spec.{Spec}
-use Rattle.rsml_meaning.specs.EventLines.{LineRule, E1, E2, E3, E4, E5, E6, E7, Reading, breaks, tells, read_line}
+use Rattle.rsml_meaning.specs.EventLines.{LineRule, E1, E2, E3, E4, E5, E6, E7, Outcome, breaks, tells, read_line}
 use Rattle.rsml_meaning.specs.EventFiles.{Limits, program_limits, FileFault, long_line, broken_line, long_file, first_fault}
 use Rattle.rsml_meaning.proofs.values.Height.{height}
 use Rattle.rsml_meaning.proofs.values.Lamp.{lamp}
 use Rattle.rsml_meaning.proofs.values.Tracks.{tracks}
 
-abbrev broken : Reading → Option LineRule
+abbrev broken : Outcome → Option LineRule
 broken (breaks rule) = Some rule
 broken (tells m) = None
 
-abbrev numbers : Reading → List ℤ
+abbrev numbers : Outcome → List ℤ
 numbers (breaks rule) = []
 numbers (tells m) = m.numbers
 

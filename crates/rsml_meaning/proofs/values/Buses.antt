@@ -12,9 +12,9 @@ buses = specification "Bus"
     receive "Set" None (plain "Lever" ∷ []) (plain "Tick") ∷
     [])
     "Top" (One' (name "A") (tt ∷ tt ∷ tt ∷ [])
-      (more_of-StateDecl (name "A") None Basic
-      (more_of-StateDecl (name "B") None Basic
-      (more_of-StateDecl (name "C") None Basic
-      end_of-StateDecl))) (bus "Any" ("A" ∷ "B" ∷ "C" ∷ []) ∷ [])
-      (move "Any" ("B" ∷ []) (plain "Tick") always [] ∷
-       []))
+    (more_of-StateDecl (name "A") None Basic
+    (more_of-StateDecl (name "B") None Basic
+    (more_of-StateDecl (name "C") None Basic
+    end_of-StateDecl))) (bus "Any" ("A" ∷ "B" ∷ "C" ∷ []) ∷ [])
+    (move "Any" ("B" ∷ []) (plain "Tick") always [] ∷
+    []))

@@ -13,16 +13,16 @@ fork = specification "Fork"
     receive "Kick" None [] (plain "Go") ∷
     [])
     "Fork" (All' (tt ∷ tt ∷ [])
-      (more_of-StateDecl (name "L") None (One' (name "P") (tt ∷ [])
-        (more_of-StateDecl (name "P") None Basic
-        end_of-StateDecl) []
-        (stay "P" (plain "Go") always (plain "E" ∷ []) ∷
-         stay "P" (plain "G") always (plain "Done" ∷ []) ∷
-         []))
-      (more_of-StateDecl (name "R") None (One' (name "Q") (tt ∷ [])
-        (more_of-StateDecl (name "Q") None Basic
-        end_of-StateDecl) []
-        (stay "Q" (plain "Go") always (plain "G" ∷ []) ∷
-         stay "Q" (plain "E") always (plain "Done" ∷ []) ∷
-         []))
-      end_of-StateDecl)))
+    (more_of-StateDecl (name "L") None (One' (name "P") (tt ∷ [])
+    (more_of-StateDecl (name "P") None Basic
+    end_of-StateDecl) []
+    (stay "P" (plain "Go") always (plain "E" ∷ []) ∷
+    stay "P" (plain "G") always (plain "Done" ∷ []) ∷
+    []))
+    (more_of-StateDecl (name "R") None (One' (name "Q") (tt ∷ [])
+    (more_of-StateDecl (name "Q") None Basic
+    end_of-StateDecl) []
+    (stay "Q" (plain "Go") always (plain "G" ∷ []) ∷
+    stay "Q" (plain "E") always (plain "Done" ∷ []) ∷
+    []))
+    end_of-StateDecl)))

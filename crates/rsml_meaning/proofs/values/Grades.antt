@@ -12,12 +12,12 @@ grades = specification "Grades"
     receive "Set" None (plain "Alt" ∷ []) (plain "Tick") ∷
     enumeration "Grade" ("Low" ∷ "High" ∷ []) ∷
     function "Level" None (case (just (of (plain "Low"))) (when (row (phrase (compares (just (of (plain "Alt"))) Less (just (digits 1000)))) (T ∷ []) ∷ [])) ∷
-      case (just (of (plain "High"))) (when (row (phrase (compares (just (of (plain "Alt"))) Less (just (digits 500)))) (F ∷ []) ∷ [])) ∷
-      []) ∷
+    case (just (of (plain "High"))) (when (row (phrase (compares (just (of (plain "Alt"))) Less (just (digits 500)))) (F ∷ []) ∷ [])) ∷
+    []) ∷
     [])
     "Height" (One' (name "Low") (tt ∷ [])
-      (more_of-StateDecl (name "Low") None Basic
-      end_of-StateDecl) []
-      (stay "Low" (plain "Tick") (when (row (phrase (is_function (plain "Level") Equal (just (of (plain "High"))))) (T ∷ []) ∷ [])) [] ∷
-       stay "Low" (plain "Tick") (when (row (phrase (is_function (plain "Level") Equal (just (of (plain "High"))))) (F ∷ []) ∷ [])) [] ∷
-       []))
+    (more_of-StateDecl (name "Low") None Basic
+    end_of-StateDecl) []
+    (stay "Low" (plain "Tick") (when (row (phrase (is_function (plain "Level") Equal (just (of (plain "High"))))) (T ∷ []) ∷ [])) [] ∷
+    stay "Low" (plain "Tick") (when (row (phrase (is_function (plain "Level") Equal (just (of (plain "High"))))) (F ∷ []) ∷ [])) [] ∷
+    []))

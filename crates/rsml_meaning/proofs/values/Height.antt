@@ -12,8 +12,8 @@ height = specification "Height"
     receive "Set" None (plain "Alt" ∷ []) (plain "Tick") ∷
     [])
     "Height" (One' (name "Low") (tt ∷ [])
-      (more_of-StateDecl (name "Low") None Basic
-      end_of-StateDecl) []
-      (stay "Low" (plain "Tick") (when (row (phrase (compares (just (of (plain "Alt"))) Less (just (digits 1000)))) (T ∷ []) ∷ [])) [] ∷
-       stay "Low" (plain "Tick") (when (row (phrase (compares (just (of (plain "Alt"))) GreaterEqual (just (digits 1000)))) (T ∷ []) ∷ [])) [] ∷
-       []))
+    (more_of-StateDecl (name "Low") None Basic
+    end_of-StateDecl) []
+    (stay "Low" (plain "Tick") (when (row (phrase (compares (just (of (plain "Alt"))) Less (just (digits 1000)))) (T ∷ []) ∷ [])) [] ∷
+    stay "Low" (plain "Tick") (when (row (phrase (compares (just (of (plain "Alt"))) GreaterEqual (just (digits 1000)))) (T ∷ []) ∷ [])) [] ∷
+    []))

@@ -12,10 +12,10 @@ lamp_short = specification "Lamp"
     receive "Set" None (plain "Lever" ∷ []) (plain "Tick") ∷
     [])
     "Lamp" (One' (name "Off") (tt ∷ tt ∷ [])
-      (more_of-StateDecl (name "Off") None Basic
-      (more_of-StateDecl (name "On") None Basic
-      end_of-StateDecl)) []
-      (move "Off" ("On" ∷ []) (plain "Tick") (when (row (phrase (compares (just (of (plain "Lever"))) Equal (just (of (plain "Up"))))) (T ∷ []) ∷ [])) [] ∷
-       stay "Off" (plain "Tick") (when (row (phrase (compares (just (of (plain "Lever"))) Equal (just (of (plain "Up"))))) (F ∷ []) ∷ [])) [] ∷
-       move "On" ("Off" ∷ []) (plain "Tick") (when (row (phrase (compares (just (of (plain "Lever"))) Equal (just (of (plain "Down"))))) (T ∷ []) ∷ [])) [] ∷
-       []))
+    (more_of-StateDecl (name "Off") None Basic
+    (more_of-StateDecl (name "On") None Basic
+    end_of-StateDecl)) []
+    (move "Off" ("On" ∷ []) (plain "Tick") (when (row (phrase (compares (just (of (plain "Lever"))) Equal (just (of (plain "Up"))))) (T ∷ []) ∷ [])) [] ∷
+    stay "Off" (plain "Tick") (when (row (phrase (compares (just (of (plain "Lever"))) Equal (just (of (plain "Up"))))) (F ∷ []) ∷ [])) [] ∷
+    move "On" ("Off" ∷ []) (plain "Tick") (when (row (phrase (compares (just (of (plain "Lever"))) Equal (just (of (plain "Down"))))) (T ∷ []) ∷ [])) [] ∷
+    []))

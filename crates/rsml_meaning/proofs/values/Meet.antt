@@ -12,20 +12,20 @@ meet = specification "Meet"
     receive "Kick" None [] (plain "Go") ∷
     [])
     "Meet" (All' (tt ∷ tt ∷ tt ∷ [])
-      (more_of-StateDecl (name "L") None (One' (name "P") (tt ∷ [])
-        (more_of-StateDecl (name "P") None Basic
-        end_of-StateDecl) []
-        (stay "P" (plain "Go") always (plain "E" ∷ []) ∷
-         []))
-      (more_of-StateDecl (name "R") None (One' (name "Q") (tt ∷ [])
-        (more_of-StateDecl (name "Q") None Basic
-        end_of-StateDecl) []
-        (stay "Q" (plain "Go") always (plain "G" ∷ []) ∷
-         []))
-      (more_of-StateDecl (name "M") None (One' (name "S") (tt ∷ [])
-        (more_of-StateDecl (name "S") None Basic
-        end_of-StateDecl) []
-        (stay "S" (plain "E") always [] ∷
-         stay "S" (plain "G") always [] ∷
-         []))
-      end_of-StateDecl))))
+    (more_of-StateDecl (name "L") None (One' (name "P") (tt ∷ [])
+    (more_of-StateDecl (name "P") None Basic
+    end_of-StateDecl) []
+    (stay "P" (plain "Go") always (plain "E" ∷ []) ∷
+    []))
+    (more_of-StateDecl (name "R") None (One' (name "Q") (tt ∷ [])
+    (more_of-StateDecl (name "Q") None Basic
+    end_of-StateDecl) []
+    (stay "Q" (plain "Go") always (plain "G" ∷ []) ∷
+    []))
+    (more_of-StateDecl (name "M") None (One' (name "S") (tt ∷ [])
+    (more_of-StateDecl (name "S") None Basic
+    end_of-StateDecl) []
+    (stay "S" (plain "E") always [] ∷
+    stay "S" (plain "G") always [] ∷
+    []))
+    end_of-StateDecl))))

@@ -14,14 +14,14 @@ nest = specification "Nest"
     receive "Leap" None [] (plain "Jump") ∷
     [])
     "Top" (One' (name "A") (tt ∷ [])
-      (more_of-StateDecl (name "A") None (One' (name "X") (tt ∷ tt ∷ [])
-        (more_of-StateDecl (name "X") None Basic
-        (more_of-StateDecl (name "Y") None Basic
-        end_of-StateDecl)) []
-        (move "X" ("Y" ∷ []) (plain "Go") always [] ∷
-         stay "Y" (plain "Go") always [] ∷
-         []))
-      end_of-StateDecl) []
-      (move "A" ("A" ∷ []) (plain "Reset") always [] ∷
-       move "A" ("A" ∷ "Y" ∷ []) (plain "Jump") always [] ∷
-       []))
+    (more_of-StateDecl (name "A") None (One' (name "X") (tt ∷ tt ∷ [])
+    (more_of-StateDecl (name "X") None Basic
+    (more_of-StateDecl (name "Y") None Basic
+    end_of-StateDecl)) []
+    (move "X" ("Y" ∷ []) (plain "Go") always [] ∷
+    stay "Y" (plain "Go") always [] ∷
+    []))
+    end_of-StateDecl) []
+    (move "A" ("A" ∷ []) (plain "Reset") always [] ∷
+    move "A" ("A" ∷ "Y" ∷ []) (plain "Jump") always [] ∷
+    []))

@@ -10,20 +10,20 @@ pair = specification "Pair"
     receive "Beat" None [] (plain "Tick") ∷
     [])
     "Pair" (All' (tt ∷ tt ∷ [])
-      (more_of-StateDecl (name "L") None (One' (name "L0") (tt ∷ tt ∷ [])
-        (more_of-StateDecl (name "L0") None Basic
-        (more_of-StateDecl (name "L1") None Basic
-        end_of-StateDecl)) []
-        (move "L0" ("L1" ∷ []) (plain "Tick") (when (row (phrase (in_state (plain "Pair" ∷ plain "R" ∷ plain "R0" ∷ []))) (T ∷ []) ∷ [])) [] ∷
-         stay "L0" (plain "Tick") (when (row (phrase (in_state (plain "Pair" ∷ plain "R" ∷ plain "R0" ∷ []))) (F ∷ []) ∷ [])) [] ∷
-         stay "L1" (plain "Tick") always [] ∷
-         []))
-      (more_of-StateDecl (name "R") None (One' (name "R0") (tt ∷ tt ∷ [])
-        (more_of-StateDecl (name "R0") None Basic
-        (more_of-StateDecl (name "R1") None Basic
-        end_of-StateDecl)) []
-        (move "R0" ("R1" ∷ []) (plain "Tick") (when (row (phrase (in_state (plain "Pair" ∷ plain "L" ∷ plain "L0" ∷ []))) (T ∷ []) ∷ [])) [] ∷
-         stay "R0" (plain "Tick") (when (row (phrase (in_state (plain "Pair" ∷ plain "L" ∷ plain "L0" ∷ []))) (F ∷ []) ∷ [])) [] ∷
-         stay "R1" (plain "Tick") always [] ∷
-         []))
-      end_of-StateDecl)))
+    (more_of-StateDecl (name "L") None (One' (name "L0") (tt ∷ tt ∷ [])
+    (more_of-StateDecl (name "L0") None Basic
+    (more_of-StateDecl (name "L1") None Basic
+    end_of-StateDecl)) []
+    (move "L0" ("L1" ∷ []) (plain "Tick") (when (row (phrase (in_state (plain "Pair" ∷ plain "R" ∷ plain "R0" ∷ []))) (T ∷ []) ∷ [])) [] ∷
+    stay "L0" (plain "Tick") (when (row (phrase (in_state (plain "Pair" ∷ plain "R" ∷ plain "R0" ∷ []))) (F ∷ []) ∷ [])) [] ∷
+    stay "L1" (plain "Tick") always [] ∷
+    []))
+    (more_of-StateDecl (name "R") None (One' (name "R0") (tt ∷ tt ∷ [])
+    (more_of-StateDecl (name "R0") None Basic
+    (more_of-StateDecl (name "R1") None Basic
+    end_of-StateDecl)) []
+    (move "R0" ("R1" ∷ []) (plain "Tick") (when (row (phrase (in_state (plain "Pair" ∷ plain "L" ∷ plain "L0" ∷ []))) (T ∷ []) ∷ [])) [] ∷
+    stay "R0" (plain "Tick") (when (row (phrase (in_state (plain "Pair" ∷ plain "L" ∷ plain "L0" ∷ []))) (F ∷ []) ∷ [])) [] ∷
+    stay "R1" (plain "Tick") always [] ∷
+    []))
+    end_of-StateDecl)))

@@ -11,7 +11,7 @@ panel = specification "Panel"
     event "Tick" None ∷
     receive "Set" None (plain "Lever" ∷ []) (plain "Tick") ∷
     send "Light" None ("Colour" ∷ []) (send_case (plain "Tick") (when (row (phrase (compares (just (of (plain "Lever"))) Equal (just (of (plain "Up"))))) (T ∷ []) ∷ [])) (sends (value (just (of (plain "Up"))) ∷ [])) ∷
-      send_case (plain "Tick") (when (row (phrase (compares (just (of (plain "Lever"))) Equal (just (of (plain "Up"))))) (F ∷ []) ∷ [])) quiet ∷
-      []) ∷
+    send_case (plain "Tick") (when (row (phrase (compares (just (of (plain "Lever"))) Equal (just (of (plain "Up"))))) (F ∷ []) ∷ [])) quiet ∷
+    []) ∷
     [])
     "Panel" Basic

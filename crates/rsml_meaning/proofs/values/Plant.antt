@@ -14,13 +14,13 @@ plant = specification "Plant"
     receive "Load" (Some (number 3)) (at_this "Depth" ∷ []) (plain "Go") ∷
     [])
     "Plant" (All' (tt ∷ [])
-      (more_of-StateDecl (name "Unit") (Some (number 3)) (One' (name "Off") (tt ∷ tt ∷ [])
-        (more_of-StateDecl (name "Off") None Basic
-        (more_of-StateDecl (name "On") None Basic
-        end_of-StateDecl)) []
-        (move "Off" ("On" ∷ []) (plain "Go") (when (row (phrase (compares (just (of (at_this "Depth"))) GreaterEqual (just (digits 500)))) (T ∷ []) ∷ [])) [] ∷
-         stay "Off" (plain "Go") (when (row (phrase (compares (just (of (at_this "Depth"))) GreaterEqual (just (digits 500)))) (F ∷ []) ∷ [])) [] ∷
-         move "On" ("Off" ∷ []) (plain "Go") (when (row (phrase (is_macro (plain "Full"))) (T ∷ Dot ∷ []) ∷ row (phrase (is_macro (plain "High"))) (Dot ∷ F ∷ []) ∷ [])) [] ∷
-         stay "On" (plain "Go") (when (row (phrase (is_macro (plain "Full"))) (F ∷ []) ∷ row (phrase (is_macro (plain "High"))) (T ∷ []) ∷ [])) [] ∷
-         []))
-      end_of-StateDecl))
+    (more_of-StateDecl (name "Unit") (Some (number 3)) (One' (name "Off") (tt ∷ tt ∷ [])
+    (more_of-StateDecl (name "Off") None Basic
+    (more_of-StateDecl (name "On") None Basic
+    end_of-StateDecl)) []
+    (move "Off" ("On" ∷ []) (plain "Go") (when (row (phrase (compares (just (of (at_this "Depth"))) GreaterEqual (just (digits 500)))) (T ∷ []) ∷ [])) [] ∷
+    stay "Off" (plain "Go") (when (row (phrase (compares (just (of (at_this "Depth"))) GreaterEqual (just (digits 500)))) (F ∷ []) ∷ [])) [] ∷
+    move "On" ("Off" ∷ []) (plain "Go") (when (row (phrase (is_macro (plain "Full"))) (T ∷ Dot ∷ []) ∷ row (phrase (is_macro (plain "High"))) (Dot ∷ F ∷ []) ∷ [])) [] ∷
+    stay "On" (plain "Go") (when (row (phrase (is_macro (plain "Full"))) (F ∷ []) ∷ row (phrase (is_macro (plain "High"))) (T ∷ []) ∷ [])) [] ∷
+    []))
+    end_of-StateDecl))

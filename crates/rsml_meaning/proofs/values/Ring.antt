@@ -11,8 +11,8 @@ ring = specification "Ring"
     receive "Kick" None [] (plain "A") ∷
     [])
     "Ring" (One' (name "R") (tt ∷ [])
-      (more_of-StateDecl (name "R") None Basic
-      end_of-StateDecl) []
-      (stay "R" (plain "A") always (plain "B" ∷ []) ∷
-       stay "R" (plain "B") always (plain "A" ∷ []) ∷
-       []))
+    (more_of-StateDecl (name "R") None Basic
+    end_of-StateDecl) []
+    (stay "R" (plain "A") always (plain "B" ∷ []) ∷
+    stay "R" (plain "B") always (plain "A" ∷ []) ∷
+    []))

@@ -12,8 +12,8 @@ rise = specification "Rise"
     receive "Set" None (plain "Alt" ∷ []) (plain "Tick") ∷
     [])
     "Rise" (One' (name "Low") (tt ∷ [])
-      (more_of-StateDecl (name "Low") None Basic
-      end_of-StateDecl) []
-      (stay "Low" (plain "Tick") (when (row (phrase (compares (total (add (of (plain "Alt")) ∷ less (previous (plain "Alt")) ∷ [])) GreaterEqual (just (digits 10)))) (T ∷ []) ∷ [])) [] ∷
-       stay "Low" (plain "Tick") (when (row (phrase (compares (total (add (of (plain "Alt")) ∷ less (previous (plain "Alt")) ∷ [])) GreaterEqual (just (digits 10)))) (F ∷ []) ∷ [])) [] ∷
-       []))
+    (more_of-StateDecl (name "Low") None Basic
+    end_of-StateDecl) []
+    (stay "Low" (plain "Tick") (when (row (phrase (compares (total (add (of (plain "Alt")) ∷ less (previous (plain "Alt")) ∷ [])) GreaterEqual (just (digits 10)))) (T ∷ []) ∷ [])) [] ∷
+    stay "Low" (plain "Tick") (when (row (phrase (compares (total (add (of (plain "Alt")) ∷ less (previous (plain "Alt")) ∷ [])) GreaterEqual (just (digits 10)))) (F ∷ []) ∷ [])) [] ∷
+    []))

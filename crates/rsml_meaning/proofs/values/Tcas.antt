@@ -21,31 +21,31 @@ tcas = specification "Tcas"
     macro "Threat" (Some (number 30)) (row (phrase (is_macro (plain "Enabled"))) (T ∷ []) ∷ row (phrase (compares (just (of (at_this "Tau"))) Less (just (digits 25)))) (T ∷ []) ∷ []) ∷
     macro "Near" (Some (number 30)) (row (phrase (is_macro (plain "Enabled"))) (T ∷ []) ∷ row (phrase (compares (just (of (at_this "Tau"))) Less (just (digits 40)))) (T ∷ []) ∷ []) ∷
     function "Worst" None (case (just (of (plain "Resolution"))) (when (row (some_of "k" (number 30) (in_state (plain "Tcas" ∷ at_name "Other" "k" ∷ plain "Threat" ∷ []))) (T ∷ []) ∷ [])) ∷
-      case (just (of (plain "Traffic"))) (when (row (some_of "k" (number 30) (in_state (plain "Tcas" ∷ at_name "Other" "k" ∷ plain "Threat" ∷ []))) (F ∷ []) ∷ row (some_of "k" (number 30) (in_state (plain "Tcas" ∷ at_name "Other" "k" ∷ plain "Near" ∷ []))) (T ∷ []) ∷ [])) ∷
-      case (just (of (plain "Clear"))) (when (row (some_of "k" (number 30) (in_state (plain "Tcas" ∷ at_name "Other" "k" ∷ plain "Threat" ∷ []))) (F ∷ []) ∷ row (some_of "k" (number 30) (in_state (plain "Tcas" ∷ at_name "Other" "k" ∷ plain "Near" ∷ []))) (F ∷ []) ∷ [])) ∷
-      []) ∷
+    case (just (of (plain "Traffic"))) (when (row (some_of "k" (number 30) (in_state (plain "Tcas" ∷ at_name "Other" "k" ∷ plain "Threat" ∷ []))) (F ∷ []) ∷ row (some_of "k" (number 30) (in_state (plain "Tcas" ∷ at_name "Other" "k" ∷ plain "Near" ∷ []))) (T ∷ []) ∷ [])) ∷
+    case (just (of (plain "Clear"))) (when (row (some_of "k" (number 30) (in_state (plain "Tcas" ∷ at_name "Other" "k" ∷ plain "Threat" ∷ []))) (F ∷ []) ∷ row (some_of "k" (number 30) (in_state (plain "Tcas" ∷ at_name "Other" "k" ∷ plain "Near" ∷ []))) (F ∷ []) ∷ [])) ∷
+    []) ∷
     receive "Pilot" None (plain "Selector" ∷ plain "Own_Alt" ∷ []) (plain "Own") ∷
     receive "Radar" (Some (number 30)) (at_this "Tau" ∷ []) (at_this "Scan") ∷
     send "Display" None ("Advice" ∷ "Height" ∷ []) (send_case (plain "Show") always (sends (value_of (plain "Worst") ∷ value (just (of (plain "Own_Alt"))) ∷ [])) ∷
-      []) ∷
+    []) ∷
     [])
     "Tcas" (All' (tt ∷ tt ∷ [])
-      (more_of-StateDecl (name "Mode") None (One' (name "Off") (tt ∷ tt ∷ [])
-        (more_of-StateDecl (name "Off") None Basic
-        (more_of-StateDecl (name "On") None Basic
-        end_of-StateDecl)) []
-        (move "Off" ("On" ∷ []) (plain "Own") (when (row (phrase (compares (just (of (plain "Selector"))) Equal (just (of (plain "Active"))))) (T ∷ []) ∷ [])) (plain "Show" ∷ []) ∷
-         stay "Off" (plain "Own") (when (row (phrase (compares (just (of (plain "Selector"))) Equal (just (of (plain "Active"))))) (F ∷ []) ∷ [])) [] ∷
-         move "On" ("Off" ∷ []) (plain "Own") (when (row (phrase (compares (just (of (plain "Selector"))) Equal (just (of (plain "Active"))))) (F ∷ []) ∷ [])) (plain "Show" ∷ []) ∷
-         stay "On" (plain "Own") (when (row (phrase (compares (just (of (plain "Selector"))) Equal (just (of (plain "Active"))))) (T ∷ []) ∷ [])) (plain "Show" ∷ []) ∷
-         []))
-      (more_of-StateDecl (name "Other") (Some (number 30)) (One' (name "Far") (tt ∷ tt ∷ tt ∷ [])
-        (more_of-StateDecl (name "Far") None Basic
-        (more_of-StateDecl (name "Near") None Basic
-        (more_of-StateDecl (name "Threat") None Basic
-        end_of-StateDecl))) (bus "Any" ("Far" ∷ "Near" ∷ "Threat" ∷ []) ∷ [])
-        (move "Any" ("Threat" ∷ []) (at_this "Scan") (when (row (phrase (is_macro (at_this "Threat"))) (T ∷ []) ∷ [])) (plain "Show" ∷ []) ∷
-         move "Any" ("Near" ∷ []) (at_this "Scan") (when (row (phrase (is_macro (at_this "Threat"))) (F ∷ []) ∷ row (phrase (is_macro (at_this "Near"))) (T ∷ []) ∷ [])) (plain "Show" ∷ []) ∷
-         move "Any" ("Far" ∷ []) (at_this "Scan") (when (row (phrase (is_macro (at_this "Threat"))) (F ∷ []) ∷ row (phrase (is_macro (at_this "Near"))) (F ∷ []) ∷ [])) (plain "Show" ∷ []) ∷
-         []))
-      end_of-StateDecl)))
+    (more_of-StateDecl (name "Mode") None (One' (name "Off") (tt ∷ tt ∷ [])
+    (more_of-StateDecl (name "Off") None Basic
+    (more_of-StateDecl (name "On") None Basic
+    end_of-StateDecl)) []
+    (move "Off" ("On" ∷ []) (plain "Own") (when (row (phrase (compares (just (of (plain "Selector"))) Equal (just (of (plain "Active"))))) (T ∷ []) ∷ [])) (plain "Show" ∷ []) ∷
+    stay "Off" (plain "Own") (when (row (phrase (compares (just (of (plain "Selector"))) Equal (just (of (plain "Active"))))) (F ∷ []) ∷ [])) [] ∷
+    move "On" ("Off" ∷ []) (plain "Own") (when (row (phrase (compares (just (of (plain "Selector"))) Equal (just (of (plain "Active"))))) (F ∷ []) ∷ [])) (plain "Show" ∷ []) ∷
+    stay "On" (plain "Own") (when (row (phrase (compares (just (of (plain "Selector"))) Equal (just (of (plain "Active"))))) (T ∷ []) ∷ [])) (plain "Show" ∷ []) ∷
+    []))
+    (more_of-StateDecl (name "Other") (Some (number 30)) (One' (name "Far") (tt ∷ tt ∷ tt ∷ [])
+    (more_of-StateDecl (name "Far") None Basic
+    (more_of-StateDecl (name "Near") None Basic
+    (more_of-StateDecl (name "Threat") None Basic
+    end_of-StateDecl))) (bus "Any" ("Far" ∷ "Near" ∷ "Threat" ∷ []) ∷ [])
+    (move "Any" ("Threat" ∷ []) (at_this "Scan") (when (row (phrase (is_macro (at_this "Threat"))) (T ∷ []) ∷ [])) (plain "Show" ∷ []) ∷
+    move "Any" ("Near" ∷ []) (at_this "Scan") (when (row (phrase (is_macro (at_this "Threat"))) (F ∷ []) ∷ row (phrase (is_macro (at_this "Near"))) (T ∷ []) ∷ [])) (plain "Show" ∷ []) ∷
+    move "Any" ("Far" ∷ []) (at_this "Scan") (when (row (phrase (is_macro (at_this "Threat"))) (F ∷ []) ∷ row (phrase (is_macro (at_this "Near"))) (F ∷ []) ∷ [])) (plain "Show" ∷ []) ∷
+    []))
+    end_of-StateDecl)))

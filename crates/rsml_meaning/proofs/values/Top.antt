@@ -12,13 +12,13 @@ top = specification "Top"
     receive "Set" None (plain "Lever" ∷ []) (plain "Tick") ∷
     [])
     "Top" (One' (name "A") (tt ∷ tt ∷ [])
-      (more_of-StateDecl (name "A") None (One' (name "B") (tt ∷ [])
-        (more_of-StateDecl (name "B") None Basic
-        end_of-StateDecl) []
-        (stay "B" (plain "Tick") (when (row (phrase (compares (just (of (plain "Lever"))) Equal (just (of (plain "Up"))))) (F ∷ []) ∷ [])) [] ∷
-         []))
-      (more_of-StateDecl (name "C") None Basic
-      end_of-StateDecl)) []
-      (move "A" ("C" ∷ []) (plain "Tick") (when (row (phrase (compares (just (of (plain "Lever"))) Equal (just (of (plain "Up"))))) (T ∷ []) ∷ [])) [] ∷
-       stay "C" (plain "Tick") always [] ∷
-       []))
+    (more_of-StateDecl (name "A") None (One' (name "B") (tt ∷ [])
+    (more_of-StateDecl (name "B") None Basic
+    end_of-StateDecl) []
+    (stay "B" (plain "Tick") (when (row (phrase (compares (just (of (plain "Lever"))) Equal (just (of (plain "Up"))))) (F ∷ []) ∷ [])) [] ∷
+    []))
+    (more_of-StateDecl (name "C") None Basic
+    end_of-StateDecl)) []
+    (move "A" ("C" ∷ []) (plain "Tick") (when (row (phrase (compares (just (of (plain "Lever"))) Equal (just (of (plain "Up"))))) (T ∷ []) ∷ [])) [] ∷
+    stay "C" (plain "Tick") always [] ∷
+    []))

@@ -12,13 +12,13 @@ tracks = specification "Tracks"
     receive "Track" (Some (number 3)) (at_this "Other_Alt" ∷ []) (at_this "Seen") ∷
     [])
     "Sky" (All' (tt ∷ [])
-      (more_of-StateDecl (name "Other") (Some (number 3)) (One' (name "Far") (tt ∷ tt ∷ [])
-        (more_of-StateDecl (name "Far") None Basic
-        (more_of-StateDecl (name "Near") None Basic
-        end_of-StateDecl)) []
-        (move "Far" ("Near" ∷ []) (at_this "Seen") (when (row (phrase (compares (just (of (at_this "Other_Alt"))) GreaterEqual (just (digits 300)))) (T ∷ []) ∷ [])) [] ∷
-         stay "Far" (at_this "Seen") (when (row (phrase (compares (just (of (at_this "Other_Alt"))) GreaterEqual (just (digits 300)))) (F ∷ []) ∷ [])) [] ∷
-         move "Near" ("Far" ∷ []) (at_this "Seen") (when (row (phrase (compares (just (of (at_this "Other_Alt"))) GreaterEqual (just (digits 300)))) (F ∷ []) ∷ [])) [] ∷
-         stay "Near" (at_this "Seen") (when (row (phrase (compares (just (of (at_this "Other_Alt"))) GreaterEqual (just (digits 300)))) (T ∷ []) ∷ [])) [] ∷
-         []))
-      end_of-StateDecl))
+    (more_of-StateDecl (name "Other") (Some (number 3)) (One' (name "Far") (tt ∷ tt ∷ [])
+    (more_of-StateDecl (name "Far") None Basic
+    (more_of-StateDecl (name "Near") None Basic
+    end_of-StateDecl)) []
+    (move "Far" ("Near" ∷ []) (at_this "Seen") (when (row (phrase (compares (just (of (at_this "Other_Alt"))) GreaterEqual (just (digits 300)))) (T ∷ []) ∷ [])) [] ∷
+    stay "Far" (at_this "Seen") (when (row (phrase (compares (just (of (at_this "Other_Alt"))) GreaterEqual (just (digits 300)))) (F ∷ []) ∷ [])) [] ∷
+    move "Near" ("Far" ∷ []) (at_this "Seen") (when (row (phrase (compares (just (of (at_this "Other_Alt"))) GreaterEqual (just (digits 300)))) (F ∷ []) ∷ [])) [] ∷
+    stay "Near" (at_this "Seen") (when (row (phrase (compares (just (of (at_this "Other_Alt"))) GreaterEqual (just (digits 300)))) (T ∷ []) ∷ [])) [] ∷
+    []))
+    end_of-StateDecl))
