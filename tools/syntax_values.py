@@ -18,17 +18,18 @@ SYNTAX = "Rattle.rsml_syntax.specs.declared.syntax"
 IMPORTS = [
     ("Rattle.std.specs.Prelude", ["[]", "◌∷◌", "Some", "None"]),
     (f"{SYNTAX}.Spec", ["Spec"]),
-    (f"{SYNTAX}.Body", ["Basic", "One'", "All'", "end_of-StateDecl", "more_of-StateDecl"]),
+    (f"{SYNTAX}.Body", ["Body", "Basic", "One'", "All'", "end_of-StateDecl", "more_of-StateDecl"]),
 ]
 
 
 class Text:
-    """The tokens of a text, read from the front."""
+    """The tokens of a text, read from the front, and what was made of them so far."""
 
     def __init__(self, text):
         self.tokens = TOKEN.findall(text)
         self.at = 0
         self.used = set()
+        self.definitions = []
 
     def peek(self):
         return self.tokens[self.at] if self.at < len(self.tokens) else None
@@ -53,6 +54,11 @@ class Text:
         self.used.add(name)
         return name
 
+    def define(self, name, kind, written):
+        """A definition of its own, by its name."""
+        self.definitions.append(f"abbrev pub {name} : {kind}\n{name} = {written}\n")
+        return name
+
 
 def call(*parts):
     return "(" + " ".join(parts) + ")"
@@ -68,9 +74,9 @@ def listed(items, between=" ∷ "):
     return "(" + between.join([*items, "[]"]) + ")" if items else "[]"
 
 
-def stacked(items, indent):
+def stacked(items):
     """A list with one item a line."""
-    return listed(items, " ∷\n" + " " * indent)
+    return listed(items, " ∷\n    ")
 
 
 def string(text):
@@ -219,7 +225,7 @@ def cases(text, item):
     items = []
     while not text.take("}"):
         items.append(item(text))
-    return stacked(items, 6)
+    return stacked(items)
 
 
 def decl(text):
@@ -264,19 +270,20 @@ def sized(text, kind, written, count):
     return parts
 
 
-def body(text, indent):
+def body(text, name_of_body):
+    """A body; one with children is a definition of its own."""
     if text.take(";"):
         return "Basic"
     kind = text.next()
     text.expect("{")
     if kind == "all":
-        written = call("All'", children(text, indent))
+        written = f"All' {children(text, name_of_body)}"
         text.expect("}")
-        return written
+        return text.define(name_of_body, "Body", written)
     text.expect("default")
     first = call(text.word("name"), name(text))
     text.expect(";")
-    row_of_children = children(text, indent)
+    row_of_children = children(text, name_of_body)
     buses = []
     while text.take("bus"):
         bus = name(text)
@@ -285,18 +292,18 @@ def body(text, indent):
     transitions = []
     while not text.take("}"):
         transitions.append(transition(text))
-    return call("One'", first, row_of_children, listed(buses) + "\n" + " " * indent + stacked(transitions, indent + 1))
+    return text.define(name_of_body, "Body", f"One' {first} {row_of_children} {listed(buses)}\n    {stacked(transitions)}")
 
 
-def children(text, indent):
+def children(text, name_of_parent):
     """The shape of a row of children, and the row."""
     items = []
     while text.peek() in ("state", "array"):
         text.next()
+        child = text.peek()
         parts = [call(text.word("name"), name(text)), size(text)]
-        items.append(" ".join([*parts, body(text, indent + 2)]))
-    pad = "\n" + " " * indent
-    row_of_children = "".join(f"{pad}(more_of-StateDecl {item}" for item in items) + f"{pad}end_of-StateDecl" + ")" * len(items)
+        items.append(" ".join([*parts, body(text, f"{name_of_parent}_{child.lower()}")]))
+    row_of_children = "".join(f"\n    (more_of-StateDecl {item}" for item in items) + " end_of-StateDecl" + ")" * len(items)
     return listed(["tt"] * len(items)) + row_of_children
 
 
@@ -327,18 +334,18 @@ def spec(text, value_name):
         decls.append(" ".join(decl(text)))
     text.expect("state")
     top = name(text)
-    states = body(text, 6)
+    states = body(text, f"{value_name}_body")
     if text.peek() is not None:
         sys.exit(f"nothing is wanted before {text.peek()}")
-    word = text.word("specification")
-    return f"abbrev pub {value_name} : Spec\n{value_name} = {word} {spec_name}\n    {stacked(decls, 4)}\n    {top} {states}\n"
+    text.define(value_name, "Spec", f"{text.word('specification')} {spec_name}\n    {stacked(decls)}\n    {top} {states}")
+    return "\n".join(text.definitions)
 
 
 def head(written, words):
     """The first lines of a file, which import what the value uses."""
     lines = ["-- A specification of the examples, as a value. tools/syntax_values.py writes this file."]
     for module, names in [*IMPORTS, ("Rattle.rsml_meaning.proofs.Written", sorted(words))]:
-        used = [item for item in names if item.strip("◌") in written]
+        used = [item for item in names if re.search(rf"(?<![\w']){re.escape(item.strip('◌'))}(?![\w'])", written)]
         lines.append(f"use {module}.{{{', '.join(used)}}}")
     return "\n".join(lines) + "\n\n"
 

@@ -1,8 +1,16 @@
 -- A specification of the examples, as a value. tools/syntax_values.py writes this file.
 use Rattle.std.specs.Prelude.{[], ◌∷◌, None}
 use Rattle.rsml_syntax.specs.declared.syntax.Spec.{Spec}
-use Rattle.rsml_syntax.specs.declared.syntax.Body.{Basic, One', end_of-StateDecl, more_of-StateDecl}
+use Rattle.rsml_syntax.specs.declared.syntax.Body.{Body, Basic, One', end_of-StateDecl, more_of-StateDecl}
 use Rattle.rsml_meaning.proofs.Written.{always, bus, enumeration, event, from_name, input, move, name, plain, receive, specification}
+
+abbrev pub buses_body : Body
+buses_body = One' (name "A") (tt ∷ tt ∷ tt ∷ [])
+    (more_of-StateDecl (name "A") None Basic
+    (more_of-StateDecl (name "B") None Basic
+    (more_of-StateDecl (name "C") None Basic end_of-StateDecl))) (bus "Any" ("A" ∷ "B" ∷ "C" ∷ []) ∷ [])
+    (move "Any" ("B" ∷ []) (plain "Tick") always [] ∷
+    [])
 
 abbrev pub buses : Spec
 buses = specification "Bus"
@@ -11,10 +19,4 @@ buses = specification "Bus"
     event "Tick" None ∷
     receive "Set" None (plain "Lever" ∷ []) (plain "Tick") ∷
     [])
-    "Top" (One' (name "A") (tt ∷ tt ∷ tt ∷ [])
-    (more_of-StateDecl (name "A") None Basic
-    (more_of-StateDecl (name "B") None Basic
-    (more_of-StateDecl (name "C") None Basic
-    end_of-StateDecl))) (bus "Any" ("A" ∷ "B" ∷ "C" ∷ []) ∷ [])
-    (move "Any" ("B" ∷ []) (plain "Tick") always [] ∷
-    []))
+    "Top" buses_body
