@@ -53,7 +53,7 @@ one_flat f x y (z ∷ xs) (inl e) k = one_front y (f z) (flat_map f xs) (subst (
 one_flat f x y (z ∷ xs) (inr h) k = one_back y (f z) (flat_map f xs) (one_flat f x y xs h k)
 one_flat f x y [] h k = elim h [ ]
 
-one_below : (k n : ℕ) → k < n → IsOne k (below n)
+pub one_below : (k n : ℕ) → k < n → IsOne k (below n)
 one_below k zero h = absurd (omega arith)
 one_below k (suc n) h = by_test (nat_eq k n) refl (one_below k n)
   where

@@ -26,7 +26,7 @@ all_back : (p : Instance → Bool) (xs ys : List Instance) → list_all p (xs ++
 all_back p [] ys h = h
 all_back p (x ∷ xs) ys h = all_back p xs ys (second_so (p x) (list_all p (xs ++ ys)) h)
 
-passes : (p : Instance → Bool) (xs : List Instance) (f : Instance) → list_all p xs ≡ true → has xs f ≡ true → p f ≡ true
+pub passes : (p : Instance → Bool) (xs : List Instance) (f : Instance) → list_all p xs ≡ true → has xs f ≡ true → p f ≡ true
 passes p [] f h k = absurd (true≢false (sym k))
 passes p (x ∷ xs) f h k = by_test (same_instance f x) refl k (passes p xs f (second_so (p x) (list_all p xs) h))
   where
@@ -38,7 +38,7 @@ either : (a b : Bool) → (a || b) ≡ true → (a ≡ true) ⊎ (b ≡ true)
 either true b h = inl refl
 either false b h = inr h
 
-in_front : (xs ys : List Instance) (f : Instance) → has xs f ≡ true → has (xs ++ ys) f ≡ true
+pub in_front : (xs ys : List Instance) (f : Instance) → has xs f ≡ true → has (xs ++ ys) f ≡ true
 in_front [] ys f h = absurd (true≢false (sym h))
 in_front (x ∷ xs) ys f h = by_test (same_instance f x) h (in_front xs ys f)
   where
@@ -46,7 +46,7 @@ in_front (x ∷ xs) ys f h = by_test (same_instance f x) h (in_front xs ys f)
     by_test true r rest = refl
     by_test false r rest = rest r
 
-in_back : (xs ys : List Instance) (f : Instance) → has ys f ≡ true → has (xs ++ ys) f ≡ true
+pub in_back : (xs ys : List Instance) (f : Instance) → has ys f ≡ true → has (xs ++ ys) f ≡ true
 in_back [] ys f h = h
 in_back (x ∷ xs) ys f h = by_test (same_instance f x) (in_back xs ys f h)
   where
@@ -54,7 +54,7 @@ in_back (x ∷ xs) ys f h = by_test (same_instance f x) (in_back xs ys f h)
     by_test true r = refl
     by_test false r = r
 
-is_raised : (ts : List TransitionInstance) (e f : Instance) → list_any (λ t. is_on e t && has t.raises f) ts ≡ true → has (raised_on ts e) f ≡ true
+pub is_raised : (ts : List TransitionInstance) (e f : Instance) → list_any (λ t. is_on e t && has t.raises f) ts ≡ true → has (raised_on ts e) f ≡ true
 is_raised [] e f h = absurd (true≢false (sym h))
 is_raised (t ∷ ts) e f h = by_test (is_on e t) h (is_raised ts e f)
   where

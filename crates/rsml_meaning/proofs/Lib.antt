@@ -7,6 +7,7 @@ mod Lengths
 mod Order
 mod OneReport
 mod Repeats
+mod Reported
 mod Same
 mod Stable
 mod Verdicts

@@ -28,7 +28,7 @@ in_none s test = no_negatives s && list_all (λ w. not (test w)) (all_worlds s)
 abbrev pub in_least : Spec → (World → Bool) → World → Bool
 in_least s test w = test w && in_none s (λ v. test v && is_before v w)
 
-each_so : (p : World → Bool) (ws : List World) (w : World) → list_all p ws ≡ true → IsOne w ws → p w ≡ true
+pub each_so : {A : Type 0} (p : A → Bool) (ws : List A) (w : A) → list_all p ws ≡ true → IsOne w ws → p w ≡ true
 each_so p (v ∷ ws) w h (inl e) = ap p e ∙ first_so (p v) (list_all p ws) h
 each_so p (v ∷ ws) w h (inr k) = each_so p ws w (second_so (p v) (list_all p ws) h) k
 each_so p [] w h k = elim k [ ]
