@@ -6,11 +6,13 @@ mod Exists
 mod Lengths
 mod Order
 mod OneReport
+mod Pigeons
 mod Repeats
 mod Reported
 mod Same
 mod Stable
 mod Verdicts
+mod Ways
 mod WellFormed
 mod Written
 mod examples

@@ -1,19 +1,18 @@
 -- Reports of small specifications, computed: their answers are shown to be right.
-use Rattle.std.proofs.Common.{◌≡◌, ℕ, zero, suc, ◌<◌, ◌≤◌, Bool, true, false, ◌&&◌, ◌||◌, not, List, [], ◌∷◌, length, map, flat_map, Option, Some, None, refl, sym, ap, ◌∙◌, subst, true≢false, arith, IsTrue, ◌↔◌, inl, inr, ◌⊎◌}
+use Rattle.std.proofs.Common.{◌≡◌, ℕ, zero, suc, ◌<◌, ◌≤◌, Bool, true, false, ◌&&◌, ◌||◌, not, List, [], ◌∷◌, length, map, flat_map, None, refl, sym, ap, ◌∙◌, subst, true≢false, arith, IsTrue, ◌↔◌}
 use Rattle.std.specs.List.{list_any, list_all, AllZip}
 use Rattle.std.specs.Ordering.{nat_cmp, is_lt}
 use Rattle.std.specs.Cmp.{first_so, second_so}
 use Rattle.std.specs.Cmp.Lexicographic.{pointwise, slice_cmp}
 use Rattle.rsml_syntax.specs.declared.syntax.Spec.{Spec}
-use Rattle.rsml_meaning.specs.Words.{Instance, same_instance, has, Each, IsOne}
-use Rattle.rsml_meaning.specs.Instances.{events}
+use Rattle.rsml_meaning.specs.Words.{Instance, same_instance, has, Each}
 use Rattle.rsml_meaning.specs.Transitions.{TransitionInstance, transitions}
 use Rattle.rsml_meaning.specs.Interfaces.{ReceiveInstance, receives}
 use Rattle.rsml_meaning.specs.Groups.{Group, groups, Sound}
 use Rattle.rsml_meaning.specs.Chains.{leads, linked, is_chain, begins_with, ends_with, is_external, IsChainFrom, Loops, Ends, Clash, meet_on_a_line, meet_in_a_send}
 use Rattle.rsml_meaning.specs.Certified.{Certified}
 use Rattle.rsml_meaning.specs.Findings.{Verdict, sound, IsVerdict}
-use Rattle.rsml_meaning.specs.Report.{ClashFound, IsClash, IsFirstClash, IsBeforeClash, IsClashAnswer, HasLength, rank}
+use Rattle.rsml_meaning.specs.Report.{ClashFound, IsClash, IsFirstClash, IsClashAnswer, rank}
 use Rattle.rsml_meaning.proofs.Same.{instance_same}
 use Rattle.rsml_meaning.proofs.AllWorlds.{below, one_below}
 use Rattle.rsml_meaning.proofs.Lengths.{raised_on, ends_in, passes, in_front, in_back, is_raised, chain_short}

@@ -1,5 +1,5 @@
 -- Laws of the definitions. Each is the contract of a function with no body.
-use Rattle.std.specs.Prelude.{◌≡◌, ℕ, Bool, false, ◌&&◌, List, map, flat_map, Option, Some, None, ℤ, ◌↔◌}
+use Rattle.std.specs.Prelude.{◌≡◌, ℕ, Bool, false, ◌&&◌, List, map, flat_map, Option, Some, None, ℤ, IsTrue, ◌↔◌, ◌⊎◌}
 use Rattle.std.specs.List.{list_any}
 use Rattle.std.specs.Cmp.{IsTotalOrder}
 use Rattle.std.specs.declared.cmp.Ordering.TheVariants.{Equal}
@@ -28,7 +28,7 @@ use Rattle.rsml_meaning.specs.Active.{enter}
 use Rattle.rsml_meaning.specs.Truth.{View, view, within, simple, table, guard, sum}
 use Rattle.rsml_meaning.specs.InOrder.{IsInOrder}
 use Rattle.rsml_meaning.specs.Groups.{Group}
-use Rattle.rsml_meaning.specs.Chains.{IsLength, Endless}
+use Rattle.rsml_meaning.specs.Chains.{is_external, IsLength, Endless}
 use Rattle.rsml_meaning.specs.Findings.{Verdict, IsVerdict}
 use Rattle.rsml_meaning.specs.EventLines.{Bytes}
 use Rattle.rsml_meaning.specs.EventFiles.{Limits, first_fault, IsWellFormed, sound_lines, lines_of}
@@ -88,6 +88,10 @@ FunctionsAreTheirCases = (s : Spec) (w : World) → IsInOrder s → (r : Reading
 -- an event with a length has no chain with an event twice
 abbrev pub LengthExcludesEndless : Type 0
 LengthExcludesEndless = (s : Spec) (x : Instance) (n : ℕ) → IsLength s x n → Endless s x → ⊥
+
+-- an external event has a length, or a chain with an event twice
+abbrev pub LengthOrEndless : Type 0
+LengthOrEndless = (s : Spec) (x : Instance) → IsTrue (is_external s x) → ((n : ℕ) × IsLength s x n) ⊎ Endless s x
 
 -- a group has at most one verdict
 abbrev pub VerdictIsOne : Type 0

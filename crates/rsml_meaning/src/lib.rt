@@ -8,7 +8,7 @@ mod states;
 mod truth;
 mod worlds;
 
-pub use chains::a_length_excludes_a_loop;
+pub use chains::an_event_has_a_length_or_a_loop;
 pub use event_files::well_formed_files_have_no_fault;
 pub use reports::a_report_is_one_text;
 pub use states::states_are_of_children;

@@ -1,19 +1,16 @@
 -- Reports, byte for byte: their answers are right, and this is their text.
 use Rattle.std.specs.Prelude.{◌≡◌, refl, ℕ, true, false, List, [], ◌∷◌, Option, Some, None, ℤ, pos, codes}
 use Rattle.std.specs.Fmt.{digits}
-use Rattle.std.proofs.Common.{lit≤}
-use Prim.Native.String.{String}
 use Rattle.rsml_syntax.specs.declared.world.World.{World}
-use Rattle.rsml_meaning.specs.Words.{Instance, at}
 use Rattle.rsml_meaning.specs.Instances.{events}
 use Rattle.rsml_meaning.specs.Groups.{groups}
 use Rattle.rsml_meaning.specs.Certified.{Certified}
-use Rattle.rsml_meaning.specs.Findings.{Verdict, sound, none, two}
+use Rattle.rsml_meaning.specs.Findings.{Verdict, sound, none}
 use Rattle.rsml_meaning.specs.Report.{Answers, ClashFound, IsReport}
 use Rattle.rsml_meaning.proofs.Lengths.{length_is}
 use Rattle.rsml_meaning.proofs.Repeats.{length_excludes_endless}
 use Rattle.rsml_meaning.proofs.Reported.{no_clash_answer, first_clash, no_loops, verdicts_are, certified}
-use Rattle.rsml_meaning.proofs.examples.Chains.{event, around, two_events_that_raise_each_other_have_no_length, each_of_two_events_that_raise_each_other_loops, two_events_clash_where_they_meet, a_length_is_that_of_the_longest_chain, a_chain_goes_on_over_other_states}
+use Rattle.rsml_meaning.proofs.examples.Chains.{event, two_events_that_raise_each_other_have_no_length, each_of_two_events_that_raise_each_other_loops, two_events_clash_where_they_meet, a_length_is_that_of_the_longest_chain, a_chain_goes_on_over_other_states}
 use Rattle.rsml_meaning.proofs.examples.Groups.{tick}
 use Rattle.rsml_meaning.proofs.examples.Worlds.{world}
 use Rattle.rsml_meaning.proofs.values.Fork.{fork}
