@@ -117,8 +117,8 @@ comparisons_in g r (simples.Macro _) = []
 comparisons_in g r (simples.Compare left relation right) = comparison_of (ground_sum g r left) relation (ground_sum g r right) ∷ []
 comparisons_in g r (simples.Function f relation right) =
     map
-      (λ c. comparison_of (ground_sum g (record { this = index_number g r f.index; variable = None }) c.value) relation (ground_sum g r right))
-      (function_cases g f.name)
+    (λ c. comparison_of (ground_sum g (record { this = index_number g r f.index; variable = None }) c.value) relation (ground_sum g r right))
+    (function_cases g f.name)
 
 -- a quantified phrase is read for each value of its variable
 abbrev pub phrase_comparisons : Globals → ℕ → Phrase → List Comparison

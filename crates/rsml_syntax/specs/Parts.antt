@@ -37,14 +37,14 @@ is_basic _ = false
 -- A state, and what it stands in.
 pub record State : Type 0 where
   pub name : Name
-  pub repeated : Bool                   -- an earlier child of its parent has the name
-  pub size : Option Amount              -- its own, where it is an array
-  pub array : Option Amount             -- the size of the innermost array around it
-  pub in_one : Bool                     -- its parent is a `one` state
+  pub repeated : Bool  -- an earlier child of its parent has the name
+  pub size : Option Amount  -- its own, where it is an array
+  pub array : Option Amount  -- the size of the innermost array around it
+  pub in_one : Bool  -- its parent is a `one` state
   pub body : Body
 
 pub data Part : Type 0 where
-  Declared : ℕ → Decl → Part            -- with the place of its name among the global names
+  Declared : ℕ → Decl → Part  -- with the place of its name among the global names
   Opens : State → Part
   Closes : State → Part
 

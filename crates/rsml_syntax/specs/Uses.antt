@@ -109,9 +109,9 @@ abbrev pub steps_used : Whole → Scope → List StateDecl → List Mention → 
 steps_used w at children [] = []
 steps_used w at children (m ∷ ms) =
     option_map_or
-      (λ c. breach 6 m.name (not (is_indexed w.globals at (size_number w.globals c.size) m.index)) ++ steps_used w at (children_of c.body) ms)
-      (child_named m.name children)
-      []
+    (λ c. breach 6 m.name (not (is_indexed w.globals at (size_number w.globals c.size) m.index)) ++ steps_used w at (children_of c.body) ms)
+    (child_named m.name children)
+    []
 
 -- each step names a child of the one before it
 abbrev pub are_steps : List StateDecl → List Mention → Bool
