@@ -1,2 +1,3 @@
+mod Lowest
 mod Refused
-mod Writing
+pub mod Writing

@@ -14,6 +14,7 @@ pub mod Rules
 pub mod Scopes
 pub mod States
 pub mod Tables
+pub mod Thresholds
 pub mod Uses
 pub mod Words
 pub mod Written

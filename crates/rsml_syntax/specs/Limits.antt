@@ -15,7 +15,8 @@ use Rattle.rsml_syntax.specs.Written.{rows_of, rows_in}
 use Rattle.rsml_syntax.specs.Previous.{names_previous}
 use Rattle.rsml_syntax.specs.Parts.{Part, Declared, Opens, Closes, State, parts, nearer, buses_of, transitions_of}
 use Rattle.rsml_syntax.specs.Rules.{refused}
-use Rattle.rsml_syntax.specs.Comparisons.{Comparison, comparisons, thresholds, same_threshold, keys, same_key}
+use Rattle.rsml_syntax.specs.Comparisons.{Comparison, comparisons}
+use Rattle.rsml_syntax.specs.Thresholds.{thresholds, same_threshold, keys, same_key}
 
 -- the sum of what is counted at each item
 abbrev pub adds : {A : Type 0} → (A → ℕ) → List A → ℕ

@@ -1,6 +1,7 @@
 //! What a specification is: its tokens, its syntax, and the worlds that it is about.
 #![tactic(auto)]
 
+mod laws;
 mod list;
 mod no_memory;
 mod syntax;
@@ -9,6 +10,7 @@ mod token;
 mod want;
 mod world;
 
+pub use laws::refused_is_lowest;
 pub use list::List;
 pub use no_memory::NoMemory;
 pub use syntax::{
