@@ -1,3 +1,2 @@
+pub mod Examples
 mod Lowest
-mod Refused
-pub mod Writing

@@ -5,7 +5,7 @@ use Rattle.rsml_syntax.specs.declared.syntax.Spec.{Spec}
 use Rattle.rsml_syntax.specs.declared.syntax.Relation.TheVariants as relations
 use Rattle.rsml_syntax.specs.declared.syntax.Body.{Basic}
 use Rattle.rsml_syntax.specs.Rules.{refused}
-use Rattle.rsml_syntax.proofs.Writing.{up_to, plus, plain, number, name, more, sum, single, in_state, compare, row, always, table, enumeration, range, from, from_name, input, event, macro, function, receive, state, array, all, one, bus, move, stay, specification, spec, shown}
+use Rattle.rsml_syntax.proofs.Examples.Writing.{up_to, plus, plain, number, name, more, sum, single, in_state, compare, row, always, table, enumeration, range, from, from_name, input, event, macro, function, receive, state, array, all, one, bus, move, stay, specification, spec, shown}
 
 -- event E; event E; state A;
 a_name_is_declared_once : refused (spec (event "E" None ∷ event "E" None ∷ []) Basic) ≡ shown 1 "E"
