@@ -3,7 +3,7 @@ use Rattle.std.specs.Prelude.{◌≡◌, [], ◌∷◌, Some, None, refl}
 use Rattle.rsml_syntax.specs.declared.syntax.Relation.TheVariants as relations
 use Rattle.rsml_syntax.specs.declared.syntax.Body.{Basic}
 use Rattle.rsml_syntax.specs.Rules.{refused}
-use Rattle.rsml_syntax.proofs.Examples.Writing.{up_to, up_to_constant, plus, minus, plain, by, number, name, previous, single, holds, compare, function_is, row, some, every, always, table, enumeration, range, constant, from, from_name, input, event, macro, case, function, receive, sent, quiet, answer, on, send, state, array, all, one, bus, stay, spec, shown}
+use Rattle.rsml_syntax.proofs.Examples.Writing.{up_to, up_to_constant, plus, minus, plain, by, name, previous, single, holds, compare, function_is, row, some, every, always, table, enumeration, range, constant, from, from_name, input, event, macro, case, function, receive, sent, quiet, answer, on, send, state, array, all, one, bus, stay, spec, shown, the, num, arrayed, unarrayed, switched}
 
 -- S1: names are declared once
 
@@ -22,93 +22,70 @@ the_specification_and_the_top_state_are_in_no_space = refl
 -- event k; range R 0 .. 9; input X [2] : R = 0; macro M { some k of 2 : X[k] = 0 | T; } event k2; event k2; state A;
 a_variable_is_no_earlier_name :
     refused (spec
-      (event "k" None
-      ∷ range "R" (plus 0) (plus 9)
-      ∷ input "X" (Some (up_to 2)) "R" (from (plus 0))
-      ∷ macro "M" None (some "k" (up_to 2) (compare (single (name (by "X" "k"))) relations.Equal (single (number 0))) "T" ∷ [])
-      ∷ event "k2" None
-      ∷ event "k2" None
-      ∷ [])
-      Basic)
+    (event "k" None
+    ∷ arrayed
+    (macro "M" None (some "k" (up_to 2) (compare (single (name (by "X" "k"))) relations.Equal (num 0)) "T" ∷ [])
+    ∷ event "k2" None
+    ∷ event "k2" None
+    ∷ []))
+    Basic)
     ≡ shown 1 "k"
 a_variable_is_no_earlier_name = refl
 
 -- range R 0 .. 9; input X [2] : R = 0; macro M { some k of 2 : X[k] = 0 | T; } event E; event E; event k; state A;
 of_a_variable_and_a_later_name_the_name_is_shown :
-    refused (spec
-      (range "R" (plus 0) (plus 9)
-      ∷ input "X" (Some (up_to 2)) "R" (from (plus 0))
-      ∷ macro "M" None (some "k" (up_to 2) (compare (single (name (by "X" "k"))) relations.Equal (single (number 0))) "T" ∷ [])
-      ∷ event "E" None
-      ∷ event "E" None
-      ∷ event "k" None
-      ∷ [])
-      Basic)
+    refused (spec (arrayed
+    (macro "M" None (some "k" (up_to 2) (compare (single (name (by "X" "k"))) relations.Equal (num 0)) "T" ∷ [])
+    ∷ event "E" None
+    ∷ event "E" None
+    ∷ event "k" None
+    ∷ []))
+    Basic)
     ≡ shown 1 "E"
 of_a_variable_and_a_later_name_the_name_is_shown = refl
 
 -- range R 0 .. 9; input X [2] : R = 0; macro M { some k of 2 : X[k] = 0 | T; } event k; state A;
 a_later_name_is_shown_though_nothing_else_is_broken :
-    refused (spec
-      (range "R" (plus 0) (plus 9)
-      ∷ input "X" (Some (up_to 2)) "R" (from (plus 0))
-      ∷ macro "M" None (some "k" (up_to 2) (compare (single (name (by "X" "k"))) relations.Equal (single (number 0))) "T" ∷ [])
-      ∷ event "k" None
-      ∷ [])
-      Basic)
+    refused (spec (arrayed
+    (macro "M" None (some "k" (up_to 2) (compare (single (name (by "X" "k"))) relations.Equal (num 0)) "T" ∷ []) ∷ event "k" None ∷ []))
+    Basic)
     ≡ shown 1 "k"
 a_later_name_is_shown_though_nothing_else_is_broken = refl
 
 -- range R 0 .. 9; input X [2] : R = 0; macro k { some k of 2 : X[k] = 0 | T; } state A;
 a_variable_is_not_the_name_of_its_own_declaration :
-    refused (spec
-      (range "R" (plus 0) (plus 9)
-      ∷ input "X" (Some (up_to 2)) "R" (from (plus 0))
-      ∷ macro "k" None (some "k" (up_to 2) (compare (single (name (by "X" "k"))) relations.Equal (single (number 0))) "T" ∷ [])
-      ∷ [])
-      Basic)
+    refused (spec (arrayed (macro "k" None (some "k" (up_to 2) (compare (single (name (by "X" "k"))) relations.Equal (num 0)) "T" ∷ []) ∷ [])) Basic)
     ≡ shown 1 "k"
 a_variable_is_not_the_name_of_its_own_declaration = refl
 
 -- event E; range R 0 .. 9; input X [2] : R = 0; state A one { default B; state B; stay B on E when { every X of 2 : 1 = 1 | T; }; }
 in_a_state_each_declared_name_is_earlier :
-    refused (spec
-      (event "E" None
-      ∷ range "R" (plus 0) (plus 9)
-      ∷ input "X" (Some (up_to 2)) "R" (from (plus 0))
-      ∷ [])
-      (one "B" (state "B" Basic ∷ []) [] (stay "B" (plain "E") (table (every "X" (up_to 2) (compare (single (number 1)) relations.Equal (single (number 1))) "T" ∷ [])) [] ∷ [])))
+    refused (spec (event "E" None ∷ arrayed []) (one "B" (state "B" Basic ∷ []) []
+    (stay "B" (plain "E") (table (every "X" (up_to 2) (compare (num 1) relations.Equal (num 1)) "T" ∷ [])) [] ∷ [])))
     ≡ shown 1 "X"
 in_a_state_each_declared_name_is_earlier = refl
 
 -- range R 0 .. 9; input X [2] : R = 0; macro M { some k of 2 : X[k] = 0 | T; every k of 2 : X[k] = 0 | T; } state A;
 two_quantifiers_may_have_one_variable :
-    refused (spec
-      (range "R" (plus 0) (plus 9)
-      ∷ input "X" (Some (up_to 2)) "R" (from (plus 0))
-      ∷ macro "M" None (some "k" (up_to 2) (compare (single (name (by "X" "k"))) relations.Equal (single (number 0))) "T" ∷ every "k" (up_to 2) (compare (single (name (by "X" "k"))) relations.Equal (single (number 0))) "T" ∷ [])
-      ∷ [])
-      Basic)
+    refused (spec (arrayed
+    (macro "M" None
+    (some "k" (up_to 2) (compare (single (name (by "X" "k"))) relations.Equal (num 0)) "T"
+    ∷ every "k" (up_to 2) (compare (single (name (by "X" "k"))) relations.Equal (num 0)) "T"
+    ∷ [])
+    ∷ []))
+    Basic)
     ≡ None
 two_quantifiers_may_have_one_variable = refl
 
 -- event E; send S (F, G, F) { on E when always quiet; } state A;
 a_field_is_repeated :
-    refused (spec
-      (event "E" None
-      ∷ send "S" None ("F" ∷ "G" ∷ "F" ∷ []) (on (plain "E") always quiet ∷ [])
-      ∷ [])
-      Basic)
+    refused (spec (event "E" None ∷ send "S" None ("F" ∷ "G" ∷ "F" ∷ []) (on (plain "E") always quiet ∷ []) ∷ []) Basic)
     ≡ shown 1 "F"
 a_field_is_repeated = refl
 
 -- event E; send S (E) { on E when always (1); } state A;
 a_field_may_have_a_global_name :
-    refused (spec
-      (event "E" None
-      ∷ send "S" None ("E" ∷ []) (on (plain "E") always (answer (sent (single (number 1)) ∷ [])) ∷ [])
-      ∷ [])
-      Basic)
+    refused (spec (event "E" None ∷ send "S" None ("E" ∷ []) (on (plain "E") always (answer (sent (num 1) ∷ [])) ∷ []) ∷ []) Basic)
     ≡ None
 a_field_may_have_a_global_name = refl
 
@@ -126,10 +103,8 @@ a_bus_is_repeated = refl
 
 -- event B; state A all { state B all { state B; state A; } state C all { state B; } }
 names_of_states_are_local_to_their_parent :
-    refused (spec
-      (event "B" None
-      ∷ [])
-      (all (state "B" (all (state "B" Basic ∷ state "A" Basic ∷ [])) ∷ state "C" (all (state "B" Basic ∷ [])) ∷ [])))
+    refused (spec (event "B" None ∷ [])
+    (all (state "B" (all (state "B" Basic ∷ state "A" Basic ∷ [])) ∷ state "C" (all (state "B" Basic ∷ [])) ∷ [])))
     ≡ None
 names_of_states_are_local_to_their_parent = refl
 
@@ -137,13 +112,7 @@ names_of_states_are_local_to_their_parent = refl
 
 -- receive Q (X) raise E; event E; range R 0 .. 9; input X : R = 0; state A;
 events_and_inputs_may_be_declared_later :
-    refused (spec
-      (receive "Q" None ((plain "X") ∷ []) (plain "E")
-      ∷ event "E" None
-      ∷ range "R" (plus 0) (plus 9)
-      ∷ input "X" None "R" (from (plus 0))
-      ∷ [])
-      Basic)
+    refused (spec (receive "Q" None (plain "X" ∷ []) (plain "E") ∷ event "E" None ∷ unarrayed []) Basic)
     ≡ None
 events_and_inputs_may_be_declared_later = refl
 
@@ -153,71 +122,47 @@ a_macro_may_not_name_itself = refl
 
 -- macro M { macro L | T; } macro L { 1 = 1 | T; } state A;
 a_macro_may_not_name_a_later_one :
-    refused (spec
-      (macro "M" None (row (holds (plain "L")) "T" ∷ [])
-      ∷ macro "L" None (row (compare (single (number 1)) relations.Equal (single (number 1))) "T" ∷ [])
-      ∷ [])
-      Basic)
+    refused (spec (macro "M" None (row (holds (plain "L")) "T" ∷ []) ∷ macro "L" None (row (compare (num 1) relations.Equal (num 1)) "T" ∷ []) ∷ [])
+    Basic)
     ≡ shown 2 "L"
 a_macro_may_not_name_a_later_one = refl
 
 -- macro L { 1 = 1 | T; } macro M { macro L | T; } state A;
 a_macro_may_name_an_earlier_one :
-    refused (spec
-      (macro "L" None (row (compare (single (number 1)) relations.Equal (single (number 1))) "T" ∷ [])
-      ∷ macro "M" None (row (holds (plain "L")) "T" ∷ [])
-      ∷ [])
-      Basic)
+    refused (spec (macro "L" None (row (compare (num 1) relations.Equal (num 1)) "T" ∷ []) ∷ macro "M" None (row (holds (plain "L")) "T" ∷ []) ∷ [])
+    Basic)
     ≡ None
 a_macro_may_name_an_earlier_one = refl
 
 -- event E; macro L { 1 = 1 | T; } state A one { default B; state B; stay B on E when { macro L | T; }; }
 a_state_may_name_each_macro :
-    refused (spec
-      (event "E" None
-      ∷ macro "L" None (row (compare (single (number 1)) relations.Equal (single (number 1))) "T" ∷ [])
-      ∷ [])
-      (one "B" (state "B" Basic ∷ []) [] (stay "B" (plain "E") (table (row (holds (plain "L")) "T" ∷ [])) [] ∷ [])))
+    refused (spec (event "E" None ∷ macro "L" None (row (compare (num 1) relations.Equal (num 1)) "T" ∷ []) ∷ [])
+    (one "B" (state "B" Basic ∷ []) [] (stay "B" (plain "E") (table (row (holds (plain "L")) "T" ∷ [])) [] ∷ [])))
     ≡ None
 a_state_may_name_each_macro = refl
 
 -- receive Q () raise M; macro M { 1 = 1 | T; } state A;
 a_later_macro_in_the_place_of_an_event_is_not_declared :
-    refused (spec
-      (receive "Q" None [] (plain "M")
-      ∷ macro "M" None (row (compare (single (number 1)) relations.Equal (single (number 1))) "T" ∷ [])
-      ∷ [])
-      Basic)
+    refused (spec (receive "Q" None [] (plain "M") ∷ macro "M" None (row (compare (num 1) relations.Equal (num 1)) "T" ∷ []) ∷ []) Basic)
     ≡ shown 2 "M"
 a_later_macro_in_the_place_of_an_event_is_not_declared = refl
 
 -- macro M { 1 = 1 | T; } receive Q () raise M; state A;
 an_earlier_macro_in_the_place_of_an_event_is_no_event :
-    refused (spec
-      (macro "M" None (row (compare (single (number 1)) relations.Equal (single (number 1))) "T" ∷ [])
-      ∷ receive "Q" None [] (plain "M")
-      ∷ [])
-      Basic)
+    refused (spec (macro "M" None (row (compare (num 1) relations.Equal (num 1)) "T" ∷ []) ∷ receive "Q" None [] (plain "M") ∷ []) Basic)
     ≡ shown 3 "M"
 an_earlier_macro_in_the_place_of_an_event_is_no_event = refl
 
 -- macro M { F = 1 | T; } function F { 1 when always; } state A;
 a_later_function_in_a_sum_is_not_declared :
-    refused (spec
-      (macro "M" None (row (compare (single (name (plain "F"))) relations.Equal (single (number 1))) "T" ∷ [])
-      ∷ function "F" None (case (single (number 1)) always ∷ [])
-      ∷ [])
-      Basic)
+    refused (spec (macro "M" None (row (compare (the "F") relations.Equal (num 1)) "T" ∷ []) ∷ function "F" None (case (num 1) always ∷ []) ∷ [])
+    Basic)
     ≡ shown 2 "F"
 a_later_function_in_a_sum_is_not_declared = refl
 
 -- macro M { macro E | T; } event E; state A;
 a_later_event_in_the_place_of_a_macro_is_no_macro :
-    refused (spec
-      (macro "M" None (row (holds (plain "E")) "T" ∷ [])
-      ∷ event "E" None
-      ∷ [])
-      Basic)
+    refused (spec (macro "M" None (row (holds (plain "E")) "T" ∷ []) ∷ event "E" None ∷ []) Basic)
     ≡ shown 3 "E"
 a_later_event_in_the_place_of_a_macro_is_no_macro = refl
 
@@ -227,10 +172,7 @@ a_size_names_a_constant_that_is_declared = refl
 
 -- macro M { some k of K : 1 = 1 | T; } state A;
 a_bound_names_a_constant_that_is_declared :
-    refused (spec
-      (macro "M" None (some "k" (up_to_constant "K") (compare (single (number 1)) relations.Equal (single (number 1))) "T" ∷ [])
-      ∷ [])
-      Basic)
+    refused (spec (macro "M" None (some "k" (up_to_constant "K") (compare (num 1) relations.Equal (num 1)) "T" ∷ []) ∷ []) Basic)
     ≡ shown 2 "K"
 a_bound_names_a_constant_that_is_declared = refl
 
@@ -240,12 +182,7 @@ an_initial_name_is_declared = refl
 
 -- event E; input X : E = 0; receive Q () raise G; state A;
 a_late_S2_is_shown_before_an_early_S3 :
-    refused (spec
-      (event "E" None
-      ∷ input "X" None "E" (from (plus 0))
-      ∷ receive "Q" None [] (plain "G")
-      ∷ [])
-      Basic)
+    refused (spec (event "E" None ∷ input "X" None "E" (from (plus 0)) ∷ receive "Q" None [] (plain "G") ∷ []) Basic)
     ≡ shown 2 "G"
 a_late_S2_is_shown_before_an_early_S3 = refl
 
@@ -257,24 +194,13 @@ a_size_is_no_event = refl
 
 -- range R 0 .. 9; input X : R = 0; macro M { some k of X : 1 = 1 | T; } state A;
 a_bound_is_no_input :
-    refused (spec
-      (range "R" (plus 0) (plus 9)
-      ∷ input "X" None "R" (from (plus 0))
-      ∷ macro "M" None (some "k" (up_to_constant "X") (compare (single (number 1)) relations.Equal (single (number 1))) "T" ∷ [])
-      ∷ [])
-      Basic)
+    refused
+    (spec (unarrayed (macro "M" None (some "k" (up_to_constant "X") (compare (num 1) relations.Equal (num 1)) "T" ∷ []) ∷ [])) Basic)
     ≡ shown 3 "X"
 a_bound_is_no_input = refl
 
 -- enumeration Switch { Down, Up } input Lever : Switch = Down; input X : Up = Up; state A;
-an_input_is_not_of_a_value :
-    refused (spec
-      (enumeration "Switch" ("Down" ∷ "Up" ∷ [])
-      ∷ input "Lever" None "Switch" (from_name "Down")
-      ∷ input "X" None "Up" (from_name "Up")
-      ∷ [])
-      Basic)
-    ≡ shown 3 "Up"
+an_input_is_not_of_a_value : refused (spec (switched (input "X" None "Up" (from_name "Up") ∷ [])) Basic) ≡ shown 3 "Up"
 an_input_is_not_of_a_value = refl
 
 -- range R 0 .. 9; input X : R = R; state A;
@@ -283,96 +209,64 @@ an_initial_name_is_no_range = refl
 
 -- constant K = 1; event E; receive Q (K) raise E; state A;
 a_receive_lists_no_constant :
-    refused (spec
-      (constant "K" (plus 1)
-      ∷ event "E" None
-      ∷ receive "Q" None ((plain "K") ∷ []) (plain "E")
-      ∷ [])
-      Basic)
+    refused (spec (constant "K" (plus 1) ∷ event "E" None ∷ receive "Q" None (plain "K" ∷ []) (plain "E") ∷ []) Basic)
     ≡ shown 3 "K"
 a_receive_lists_no_constant = refl
 
 -- enumeration Switch { Down, Up } input Lever : Switch = Down; receive Q () raise Up; state A;
-a_value_is_no_event :
-    refused (spec
-      (enumeration "Switch" ("Down" ∷ "Up" ∷ [])
-      ∷ input "Lever" None "Switch" (from_name "Down")
-      ∷ receive "Q" None [] (plain "Up")
-      ∷ [])
-      Basic)
-    ≡ shown 3 "Up"
+a_value_is_no_event : refused (spec (switched (receive "Q" None [] (plain "Up") ∷ [])) Basic) ≡ shown 3 "Up"
 a_value_is_no_event = refl
 
 -- enumeration Switch { Down, Up } input Lever : Switch = Down; macro M { Lever = Switch | T; } state A;
 an_enumeration_is_no_operand :
-    refused (spec
-      (enumeration "Switch" ("Down" ∷ "Up" ∷ [])
-      ∷ input "Lever" None "Switch" (from_name "Down")
-      ∷ macro "M" None (row (compare (single (name (plain "Lever"))) relations.Equal (single (name (plain "Switch")))) "T" ∷ [])
-      ∷ [])
-      Basic)
+    refused (spec (switched (macro "M" None (row (compare (the "Lever") relations.Equal (the "Switch")) "T" ∷ []) ∷ [])) Basic)
     ≡ shown 3 "Switch"
 an_enumeration_is_no_operand = refl
 
 -- macro L { 1 = 1 | T; } macro M { L = 1 | T; } state A;
 a_macro_is_no_operand :
     refused (spec
-      (macro "L" None (row (compare (single (number 1)) relations.Equal (single (number 1))) "T" ∷ [])
-      ∷ macro "M" None (row (compare (single (name (plain "L"))) relations.Equal (single (number 1))) "T" ∷ [])
-      ∷ [])
-      Basic)
+    (macro "L" None (row (compare (num 1) relations.Equal (num 1)) "T" ∷ [])
+    ∷ macro "M" None (row (compare (the "L") relations.Equal (num 1)) "T" ∷ [])
+    ∷ [])
+    Basic)
     ≡ shown 3 "L"
 a_macro_is_no_operand = refl
 
 -- constant K = 1; macro M { previous K = 1 | T; } state A;
 after_previous_stands_an_input :
-    refused (spec
-      (constant "K" (plus 1)
-      ∷ macro "M" None (row (compare (single (previous (plain "K"))) relations.Equal (single (number 1))) "T" ∷ [])
-      ∷ [])
-      Basic)
+    refused (spec (constant "K" (plus 1) ∷ macro "M" None (row (compare (single (previous (plain "K"))) relations.Equal (num 1)) "T" ∷ []) ∷ [])
+    Basic)
     ≡ shown 3 "K"
 after_previous_stands_an_input = refl
 
 -- function F { 1 when always; } macro M { macro F | T; } state A;
 after_macro_stands_no_function :
-    refused (spec
-      (function "F" None (case (single (number 1)) always ∷ [])
-      ∷ macro "M" None (row (holds (plain "F")) "T" ∷ [])
-      ∷ [])
-      Basic)
+    refused (spec (function "F" None (case (num 1) always ∷ []) ∷ macro "M" None (row (holds (plain "F")) "T" ∷ []) ∷ []) Basic)
     ≡ shown 3 "F"
 after_macro_stands_no_function = refl
 
 -- macro L { 1 = 1 | T; } macro M { function L = 1 | T; } state A;
 after_function_stands_no_macro :
     refused (spec
-      (macro "L" None (row (compare (single (number 1)) relations.Equal (single (number 1))) "T" ∷ [])
-      ∷ macro "M" None (row (function_is (plain "L") relations.Equal (single (number 1))) "T" ∷ [])
-      ∷ [])
-      Basic)
+    (macro "L" None (row (compare (num 1) relations.Equal (num 1)) "T" ∷ [])
+    ∷ macro "M" None (row (function_is (plain "L") relations.Equal (num 1)) "T" ∷ [])
+    ∷ [])
+    Basic)
     ≡ shown 3 "L"
 after_function_stands_no_macro = refl
 
 -- range R 0 .. 9; input X : R = 0; state A one { default B; state B; stay B on X when always; }
 a_trigger_is_no_input :
-    refused (spec
-      (range "R" (plus 0) (plus 9)
-      ∷ input "X" None "R" (from (plus 0))
-      ∷ [])
-      (one "B" (state "B" Basic ∷ []) [] (stay "B" (plain "X") always [] ∷ [])))
+    refused (spec (unarrayed []) (one "B" (state "B" Basic ∷ []) [] (stay "B" (plain "X") always [] ∷ [])))
     ≡ shown 3 "X"
 a_trigger_is_no_input = refl
 
 -- event E; enumeration Switch { Down, Up } input Lever : Switch = Down; state A one { default B; state B; stay B on Up when { E =
 -- 1 | T; } raise Down; }
 of_two_the_first_name_is_shown :
-    refused (spec
-      (event "E" None
-      ∷ enumeration "Switch" ("Down" ∷ "Up" ∷ [])
-      ∷ input "Lever" None "Switch" (from_name "Down")
-      ∷ [])
-      (one "B" (state "B" Basic ∷ []) [] (stay "B" (plain "Up") (table (row (compare (single (name (plain "E"))) relations.Equal (single (number 1))) "T" ∷ [])) ((plain "Down") ∷ []) ∷ [])))
+    refused (spec (event "E" None ∷ switched []) (one "B" (state "B" Basic ∷ []) []
+    (stay "B" (plain "Up") (table (row (compare (the "E") relations.Equal (num 1)) "T" ∷ [])) (plain "Down" ∷ []) ∷ [])))
     ≡ shown 3 "Up"
 of_two_the_first_name_is_shown = refl
 
@@ -391,7 +285,9 @@ a_range_from_minus_1_falls_to_minus_2 : refused (spec (range "R" (minus 1) (minu
 a_range_from_minus_1_falls_to_minus_2 = refl
 
 -- constant K = 64; event E [K]; event G [1]; state A;
-a_size_may_be_64 : refused (spec (constant "K" (plus 64) ∷ event "E" (Some (up_to_constant "K")) ∷ event "G" (Some (up_to 1)) ∷ []) Basic) ≡ None
+a_size_may_be_64 :
+    refused (spec (constant "K" (plus 64) ∷ event "E" (Some (up_to_constant "K")) ∷ event "G" (Some (up_to 1)) ∷ []) Basic)
+    ≡ None
 a_size_may_be_64 = refl
 
 -- event E [0]; state A;
@@ -412,19 +308,13 @@ a_constant_size_is_not_65 = refl
 
 -- constant K = -2; macro M { some k of K : 1 = 1 | T; } state A;
 a_bound_is_shown_by_its_variable :
-    refused (spec
-      (constant "K" (minus 2)
-      ∷ macro "M" None (some "k" (up_to_constant "K") (compare (single (number 1)) relations.Equal (single (number 1))) "T" ∷ [])
-      ∷ [])
-      Basic)
+    refused (spec (constant "K" (minus 2) ∷ macro "M" None (some "k" (up_to_constant "K") (compare (num 1) relations.Equal (num 1)) "T" ∷ []) ∷ [])
+    Basic)
     ≡ shown 5 "k"
 a_bound_is_shown_by_its_variable = refl
 
 -- macro M [65] { some k of 0 : 1 = 1 | T; } state A;
 the_sized_name_stands_before_the_variable :
-    refused (spec
-      (macro "M" (Some (up_to 65)) (some "k" (up_to 0) (compare (single (number 1)) relations.Equal (single (number 1))) "T" ∷ [])
-      ∷ [])
-      Basic)
+    refused (spec (macro "M" (Some (up_to 65)) (some "k" (up_to 0) (compare (num 1) relations.Equal (num 1)) "T" ∷ []) ∷ []) Basic)
     ≡ shown 5 "M"
 the_sized_name_stands_before_the_variable = refl
