@@ -156,9 +156,9 @@ this_is_an_index_in_a_macro_of_that_size :
     ≡ None
 this_is_an_index_in_a_macro_of_that_size = refl
 
--- range R 0 .. 9; input X [2] : R = 0; function F [1] { X[this] when always; } state A;
+-- range R 0 .. 9; input X [2] : R = 0; function V [1] { X[this] when always; } state A;
 this_is_an_index_in_a_smaller_function :
-    refused (spec (arrayed (function "F" (Some (up_to 1)) (case (single (name (this "X"))) always ∷ []) ∷ [])) Basic)
+    refused (spec (arrayed (function "V" (Some (up_to 1)) (case (single (name (this "X"))) always ∷ []) ∷ [])) Basic)
     ≡ None
 this_is_an_index_in_a_smaller_function = refl
 
@@ -181,12 +181,12 @@ this_is_an_index_in_a_receive :
     ≡ None
 this_is_an_index_in_a_receive = refl
 
--- event E [2]; range R 0 .. 9; input X [2] : R = 0; send S [2] (F) { on E[this] when { X[this] = 1 | T; } (X[this]); } state A;
+-- event E [2]; range R 0 .. 9; input X [2] : R = 0; send S [2] (V) { on E[this] when { X[this] = 1 | T; } (X[this]); } state A;
 this_is_an_index_in_a_send :
     refused (spec
     (event "E" (Some (up_to 2))
     ∷ arrayed
-    (send "S" (Some (up_to 2)) ("F" ∷ [])
+    (send "S" (Some (up_to 2)) ("V" ∷ [])
     (on (this "E") (table (row (compare (single (name (this "X"))) relations.Equal (num 1)) "T" ∷ []))
     (answer (sent (single (name (this "X"))) ∷ []))
     ∷ [])

@@ -116,53 +116,53 @@ the_source_of_a_transition_is_shown :
     ≡ shown 7 "B"
 the_source_of_a_transition_is_shown = refl
 
--- event E; enumeration Switch { Down, Up } input Lever : Switch = Down; send S (F) { on E when always (-Lever); } state A;
+-- event E; enumeration Switch { Down, Up } input Lever : Switch = Down; send S (V) { on E when always (-Lever); } state A;
 a_sent_sum_has_a_kind :
     refused (spec
     (event "E" None
-    ∷ switched (send "S" None ("F" ∷ []) (on (plain "E") always (answer (sent (sum (less (name (plain "Lever")) ∷ [])) ∷ [])) ∷ []) ∷ []))
+    ∷ switched (send "S" None ("V" ∷ []) (on (plain "E") always (answer (sent (sum (less (name (plain "Lever")) ∷ [])) ∷ [])) ∷ []) ∷ []))
     Basic)
     ≡ shown 7 "S"
 a_sent_sum_has_a_kind = refl
 
--- enumeration Switch { Down, Up } input Lever : Switch = Down; function F { -Lever when always; } state A;
+-- enumeration Switch { Down, Up } input Lever : Switch = Down; function V { -Lever when always; } state A;
 a_value_of_a_case_has_a_kind :
-    refused (spec (switched (function "F" None (case (sum (less (name (plain "Lever")) ∷ [])) always ∷ []) ∷ [])) Basic)
-    ≡ shown 7 "F"
+    refused (spec (switched (function "V" None (case (sum (less (name (plain "Lever")) ∷ [])) always ∷ []) ∷ [])) Basic)
+    ≡ shown 7 "V"
 a_value_of_a_case_has_a_kind = refl
 
 -- S7: functions
 
--- enumeration Switch { Down, Up } input Lever : Switch = Down; function F { Up when always; } macro M { function F = 1 | T; } state A;
+-- enumeration Switch { Down, Up } input Lever : Switch = Down; function V { Up when always; } macro M { function V = 1 | T; } state A;
 a_function_has_the_kind_of_its_first_case :
     refused (spec (switched
-    (function "F" None (case (the "Up") always ∷ []) ∷ macro "M" None (row (function_is (plain "F") relations.Equal (num 1)) "T" ∷ []) ∷ []))
+    (function "V" None (case (the "Up") always ∷ []) ∷ macro "M" None (row (function_is (plain "V") relations.Equal (num 1)) "T" ∷ []) ∷ []))
     Basic)
     ≡ shown 7 "M"
 a_function_has_the_kind_of_its_first_case = refl
 
--- enumeration Switch { Down, Up } input Lever : Switch = Down; function F { Up when always; } macro M { function F < Up | T; } state A;
+-- enumeration Switch { Down, Up } input Lever : Switch = Down; function V { Up when always; } macro M { function V < Up | T; } state A;
 a_function_of_an_enumeration_is_not_ordered :
     refused (spec (switched
-    (function "F" None (case (the "Up") always ∷ [])
-    ∷ macro "M" None (row (function_is (plain "F") relations.Less (the "Up")) "T" ∷ [])
+    (function "V" None (case (the "Up") always ∷ [])
+    ∷ macro "M" None (row (function_is (plain "V") relations.Less (the "Up")) "T" ∷ [])
     ∷ []))
     Basic)
     ≡ shown 7 "M"
 a_function_of_an_enumeration_is_not_ordered = refl
 
--- enumeration Switch { Down, Up } input Lever : Switch = Down; function F { } macro M { function F < Up | T; } state A;
+-- enumeration Switch { Down, Up } input Lever : Switch = Down; function V { } macro M { function V < Up | T; } state A;
 a_function_without_cases_is_left_to_S15 :
     refused
-    (spec (switched (function "F" None [] ∷ macro "M" None (row (function_is (plain "F") relations.Less (the "Up")) "T" ∷ []) ∷ [])) Basic)
-    ≡ shown 15 "F"
+    (spec (switched (function "V" None [] ∷ macro "M" None (row (function_is (plain "V") relations.Less (the "Up")) "T" ∷ []) ∷ [])) Basic)
+    ≡ shown 15 "V"
 a_function_without_cases_is_left_to_S15 = refl
 
--- enumeration Switch { Down, Up } input Lever : Switch = Down; function F { } macro M { function F = -Up | T; } state A;
+-- enumeration Switch { Down, Up } input Lever : Switch = Down; function V { } macro M { function V = -Up | T; } state A;
 but_the_other_side_has_a_kind :
     refused (spec (switched
-    (function "F" None []
-    ∷ macro "M" None (row (function_is (plain "F") relations.Equal (sum (less (name (plain "Up")) ∷ []))) "T" ∷ [])
+    (function "V" None []
+    ∷ macro "M" None (row (function_is (plain "V") relations.Equal (sum (less (name (plain "Up")) ∷ []))) "T" ∷ [])
     ∷ []))
     Basic)
     ≡ shown 7 "M"
@@ -190,79 +190,79 @@ a_table_may_have_32_columns :
     ≡ None
 a_table_may_have_32_columns = refl
 
--- function F { 1 when { }; } state A;
-a_table_in_a_case_is_shown_by_the_function : refused (spec (function "F" None (case (num 1) (table []) ∷ []) ∷ []) Basic) ≡ shown 8 "F"
+-- function V { 1 when { }; } state A;
+a_table_in_a_case_is_shown_by_the_function : refused (spec (function "V" None (case (num 1) (table []) ∷ []) ∷ []) Basic) ≡ shown 8 "V"
 a_table_in_a_case_is_shown_by_the_function = refl
 
 -- S15: functions and sends
 
--- enumeration Switch { Down, Up } input Lever : Switch = Down; function F { 1 when always; Up when always; } state A;
+-- enumeration Switch { Down, Up } input Lever : Switch = Down; function V { 1 when always; Up when always; } state A;
 the_cases_of_a_function_are_of_one_kind :
-    refused (spec (switched (function "F" None (case (num 1) always ∷ case (the "Up") always ∷ []) ∷ [])) Basic)
-    ≡ shown 15 "F"
+    refused (spec (switched (function "V" None (case (num 1) always ∷ case (the "Up") always ∷ []) ∷ [])) Basic)
+    ≡ shown 15 "V"
 the_cases_of_a_function_are_of_one_kind = refl
 
--- constant K = 1; range R 0 .. 9; input X : R = 0; function F { X + 1 when always; } macro M { function F = K + 1 | T; } state A;
+-- constant K = 1; range R 0 .. 9; input X : R = 0; function V { X + 1 when always; } macro M { function V = K + 1 | T; } state A;
 a_function_is_compared_with_a_constant_sum :
     refused (spec
     (constant "K" (plus 1)
     ∷ unarrayed
-    (function "F" None (case (sum (more (name (plain "X")) ∷ more (number 1) ∷ [])) always ∷ [])
-    ∷ macro "M" None (row (function_is (plain "F") relations.Equal (sum (more (name (plain "K")) ∷ more (number 1) ∷ []))) "T" ∷ [])
+    (function "V" None (case (sum (more (name (plain "X")) ∷ more (number 1) ∷ [])) always ∷ [])
+    ∷ macro "M" None (row (function_is (plain "V") relations.Equal (sum (more (name (plain "K")) ∷ more (number 1) ∷ []))) "T" ∷ [])
     ∷ []))
     Basic)
     ≡ None
 a_function_is_compared_with_a_constant_sum = refl
 
--- range R 0 .. 9; input X : R = 0; function F { 1 when always; } macro M { function F = X | T; } state A;
+-- range R 0 .. 9; input X : R = 0; function V { 1 when always; } macro M { function V = X | T; } state A;
 a_function_is_compared_with_no_input :
     refused (spec (unarrayed
-    (function "F" None (case (num 1) always ∷ []) ∷ macro "M" None (row (function_is (plain "F") relations.Equal (the "X")) "T" ∷ []) ∷ []))
+    (function "V" None (case (num 1) always ∷ []) ∷ macro "M" None (row (function_is (plain "V") relations.Equal (the "X")) "T" ∷ []) ∷ []))
     Basic)
-    ≡ shown 15 "F"
+    ≡ shown 15 "V"
 a_function_is_compared_with_no_input = refl
 
--- range R 0 .. 9; input X : R = 0; function F { 1 when always; } macro M { function F = 1 + previous X | T; } state A;
+-- range R 0 .. 9; input X : R = 0; function V { 1 when always; } macro M { function V = 1 + previous X | T; } state A;
 a_function_is_compared_with_no_previous_input :
     refused (spec (unarrayed
-    (function "F" None (case (num 1) always ∷ [])
-    ∷ macro "M" None (row (function_is (plain "F") relations.Equal (sum (more (number 1) ∷ more (previous (plain "X")) ∷ []))) "T" ∷ [])
+    (function "V" None (case (num 1) always ∷ [])
+    ∷ macro "M" None (row (function_is (plain "V") relations.Equal (sum (more (number 1) ∷ more (previous (plain "X")) ∷ []))) "T" ∷ [])
     ∷ []))
     Basic)
-    ≡ shown 15 "F"
+    ≡ shown 15 "V"
 a_function_is_compared_with_no_previous_input = refl
 
--- range R 0 .. 9; input X : R = 0; function F { 1 when always; } macro M { function F = X | T; } function G { } state A;
+-- range R 0 .. 9; input X : R = 0; function V { 1 when always; } macro M { function V = X | T; } function G { } state A;
 a_function_is_shown_where_it_is_compared :
     refused (spec (unarrayed
-    (function "F" None (case (num 1) always ∷ [])
-    ∷ macro "M" None (row (function_is (plain "F") relations.Equal (the "X")) "T" ∷ [])
+    (function "V" None (case (num 1) always ∷ [])
+    ∷ macro "M" None (row (function_is (plain "V") relations.Equal (the "X")) "T" ∷ [])
     ∷ function "G" None []
     ∷ []))
     Basic)
-    ≡ shown 15 "F"
+    ≡ shown 15 "V"
 a_function_is_shown_where_it_is_compared = refl
 
--- range R 0 .. 9; input X : R = 0; function F { 1 when always; } function G { 1 when { function F = X | T; }; } function H { } state A;
+-- range R 0 .. 9; input X : R = 0; function V { 1 when always; } function G { 1 when { function V = X | T; }; } function H { } state A;
 its_declaration_is_shown_before_a_comparison_in_it :
     refused (spec (unarrayed
-    (function "F" None (case (num 1) always ∷ [])
-    ∷ function "G" None (case (num 1) (table (row (function_is (plain "F") relations.Equal (the "X")) "T" ∷ [])) ∷ [])
+    (function "V" None (case (num 1) always ∷ [])
+    ∷ function "G" None (case (num 1) (table (row (function_is (plain "V") relations.Equal (the "X")) "T" ∷ [])) ∷ [])
     ∷ function "H" None []
     ∷ []))
     Basic)
-    ≡ shown 15 "F"
+    ≡ shown 15 "V"
 its_declaration_is_shown_before_a_comparison_in_it = refl
 
--- event E; send S (F, G) { on E when always (1); } state A;
+-- event E; send S (V, G) { on E when always (1); } state A;
 a_send_case_gives_a_value_for_each_field :
-    refused (spec (event "E" None ∷ send "S" None ("F" ∷ "G" ∷ []) (on (plain "E") always (answer (sent (num 1) ∷ [])) ∷ []) ∷ []) Basic)
+    refused (spec (event "E" None ∷ send "S" None ("V" ∷ "G" ∷ []) (on (plain "E") always (answer (sent (num 1) ∷ [])) ∷ []) ∷ []) Basic)
     ≡ shown 15 "S"
 a_send_case_gives_a_value_for_each_field = refl
 
--- event E; send S (F, G) { on E when always quiet; } state A;
+-- event E; send S (V, G) { on E when always quiet; } state A;
 a_quiet_case_gives_none :
-    refused (spec (event "E" None ∷ send "S" None ("F" ∷ "G" ∷ []) (on (plain "E") always quiet ∷ []) ∷ []) Basic)
+    refused (spec (event "E" None ∷ send "S" None ("V" ∷ "G" ∷ []) (on (plain "E") always quiet ∷ []) ∷ []) Basic)
     ≡ None
 a_quiet_case_gives_none = refl
 
@@ -310,8 +310,8 @@ a_sum_on_the_other_side_has_at_most_8_terms :
     ≡ shown 16 "B"
 a_sum_on_the_other_side_has_at_most_8_terms = refl
 
--- event E; send S (F) { on E when always (1 + 1 + 1 + 1 + 1 + 1 + 1 + 1 + 1); } state A;
+-- event E; send S (V) { on E when always (1 + 1 + 1 + 1 + 1 + 1 + 1 + 1 + 1); } state A;
 a_sent_sum_has_at_most_8_terms :
-    refused (spec (event "E" None ∷ send "S" None ("F" ∷ []) (on (plain "E") always (answer (sent (ones 9) ∷ [])) ∷ []) ∷ []) Basic)
+    refused (spec (event "E" None ∷ send "S" None ("V" ∷ []) (on (plain "E") always (answer (sent (ones 9) ∷ [])) ∷ []) ∷ []) Basic)
     ≡ shown 16 "S"
 a_sent_sum_has_at_most_8_terms = refl

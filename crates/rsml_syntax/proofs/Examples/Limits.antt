@@ -110,7 +110,7 @@ abbrev wide_macro : ℕ → Decl
 wide_macro n = decl.Macro (letters n) (Some (up_to 64)) (rows 1)
 
 abbrev wide_function : Decl
-wide_function = function "F" (Some (up_to 64)) (case (num 1) always ∷ [])
+wide_function = function "V" (Some (up_to 64)) (case (num 1) always ∷ [])
 
 keeps_8192_definitions : Keeps (spec (wide_function ∷ map wide_macro (numbers 127)) Basic)
 keeps_8192_definitions = (refl, refl)

@@ -77,10 +77,10 @@ two_quantifiers_may_have_one_variable :
     ≡ None
 two_quantifiers_may_have_one_variable = refl
 
--- event E; send S (F, G, F) { on E when always quiet; } state A;
+-- event E; send S (V, G, V) { on E when always quiet; } state A;
 a_field_is_repeated :
-    refused (spec (event "E" None ∷ send "S" None ("F" ∷ "G" ∷ "F" ∷ []) (on (plain "E") always quiet ∷ []) ∷ []) Basic)
-    ≡ shown 1 "F"
+    refused (spec (event "E" None ∷ send "S" None ("V" ∷ "G" ∷ "V" ∷ []) (on (plain "E") always quiet ∷ []) ∷ []) Basic)
+    ≡ shown 1 "V"
 a_field_is_repeated = refl
 
 -- event E; send S (E) { on E when always (1); } state A;
@@ -153,11 +153,11 @@ an_earlier_macro_in_the_place_of_an_event_is_no_event :
     ≡ shown 3 "M"
 an_earlier_macro_in_the_place_of_an_event_is_no_event = refl
 
--- macro M { F = 1 | T; } function F { 1 when always; } state A;
+-- macro M { V = 1 | T; } function V { 1 when always; } state A;
 a_later_function_in_a_sum_is_not_declared :
-    refused (spec (macro "M" None (row (compare (the "F") relations.Equal (num 1)) "T" ∷ []) ∷ function "F" None (case (num 1) always ∷ []) ∷ [])
+    refused (spec (macro "M" None (row (compare (the "V") relations.Equal (num 1)) "T" ∷ []) ∷ function "V" None (case (num 1) always ∷ []) ∷ [])
     Basic)
-    ≡ shown 2 "F"
+    ≡ shown 2 "V"
 a_later_function_in_a_sum_is_not_declared = refl
 
 -- macro M { macro E | T; } event E; state A;
@@ -240,10 +240,10 @@ after_previous_stands_an_input :
     ≡ shown 3 "K"
 after_previous_stands_an_input = refl
 
--- function F { 1 when always; } macro M { macro F | T; } state A;
+-- function V { 1 when always; } macro M { macro V | T; } state A;
 after_macro_stands_no_function :
-    refused (spec (function "F" None (case (num 1) always ∷ []) ∷ macro "M" None (row (holds (plain "F")) "T" ∷ []) ∷ []) Basic)
-    ≡ shown 3 "F"
+    refused (spec (function "V" None (case (num 1) always ∷ []) ∷ macro "M" None (row (holds (plain "V")) "T" ∷ []) ∷ []) Basic)
+    ≡ shown 3 "V"
 after_macro_stands_no_function = refl
 
 -- macro L { 1 = 1 | T; } macro M { function L = 1 | T; } state A;

@@ -179,46 +179,46 @@ a_bus_is_read_once :
     ≡ 1
 a_bus_is_read_once = refl
 
--- range R 0 .. 9; input X : R = 0; function F { X when always; } state A;
+-- range R 0 .. 9; input X : R = 0; function V { X when always; } state A;
 a_function_that_nothing_compares_asks_for_nothing :
-    thresholds_and_keys (spec (unarrayed (function "F" None (case (the "X") always ∷ []) ∷ [])) Basic)
+    thresholds_and_keys (spec (unarrayed (function "V" None (case (the "X") always ∷ []) ∷ [])) Basic)
     ≡ 0
 a_function_that_nothing_compares_asks_for_nothing = refl
 
--- range R 0 .. 9; input X : R = 0; function F { X when always; X + 1 when always; 3 when always; } macro M { function F < 5 | T; } state A;
+-- range R 0 .. 9; input X : R = 0; function V { X when always; X + 1 when always; 3 when always; } macro M { function V < 5 | T; } state A;
 a_function_is_read_as_its_cases :
     thresholds_and_keys (spec (unarrayed
-    (function "F" None
+    (function "V" None
     (case (the "X") always ∷ case (sum (more (name (plain "X")) ∷ more (number 1) ∷ [])) always ∷ case (num 3) always ∷ [])
-    ∷ macro "M" None (row (function_is (plain "F") relations.Less (num 5)) "T" ∷ [])
+    ∷ macro "M" None (row (function_is (plain "V") relations.Less (num 5)) "T" ∷ [])
     ∷ []))
     Basic)
     ≡ 2
 a_function_is_read_as_its_cases = refl
 
--- range R 0 .. 9; input X : R = 0; function F { 3 when { X < 5 | T; }; } state A;
+-- range R 0 .. 9; input X : R = 0; function V { 3 when { X < 5 | T; }; } state A;
 its_guards_count_as_all_tables :
     thresholds_and_keys
-    (spec (unarrayed (function "F" None (case (num 3) (table (row (compare (the "X") relations.Less (num 5)) "T" ∷ [])) ∷ []) ∷ [])) Basic)
+    (spec (unarrayed (function "V" None (case (num 3) (table (row (compare (the "X") relations.Less (num 5)) "T" ∷ [])) ∷ []) ∷ [])) Basic)
     ≡ 1
 its_guards_count_as_all_tables = refl
 
--- range R 0 .. 9; input X [2] : R = 0; function F [2] { X[this] when always; } macro M { function F[2] < 5 | T; X[2] < 5 | T; } state A;
+-- range R 0 .. 9; input X [2] : R = 0; function V [2] { X[this] when always; } macro M { function V[2] < 5 | T; X[2] < 5 | T; } state A;
 a_function_is_read_in_its_own_instance :
     thresholds_and_keys (spec (arrayed
-    (function "F" (Some (up_to 2)) (case (single (name (this "X"))) always ∷ [])
+    (function "V" (Some (up_to 2)) (case (single (name (this "X"))) always ∷ [])
     ∷ macro "M" None
-    (row (function_is (at "F" 2) relations.Less (num 5)) "T" ∷ row (compare (single (name (at "X" 2))) relations.Less (num 5)) "T" ∷ [])
+    (row (function_is (at "V" 2) relations.Less (num 5)) "T" ∷ row (compare (single (name (at "X" 2))) relations.Less (num 5)) "T" ∷ [])
     ∷ []))
     Basic)
     ≡ 1
 a_function_is_read_in_its_own_instance = refl
 
--- range R 0 .. 9; input X [2] : R = 0; function F [2] { X[this] when always; } macro M { some k of 2 : function F[k] < 5 | T; } state A;
+-- range R 0 .. 9; input X [2] : R = 0; function V [2] { X[this] when always; } macro M { some k of 2 : function V[k] < 5 | T; } state A;
 a_quantified_function_is_read_in_each_instance :
     thresholds_and_keys (spec (arrayed
-    (function "F" (Some (up_to 2)) (case (single (name (this "X"))) always ∷ [])
-    ∷ macro "M" None (some "k" (up_to 2) (function_is (by "F" "k") relations.Less (num 5)) "T" ∷ [])
+    (function "V" (Some (up_to 2)) (case (single (name (this "X"))) always ∷ [])
+    ∷ macro "M" None (some "k" (up_to 2) (function_is (by "V" "k") relations.Less (num 5)) "T" ∷ [])
     ∷ []))
     Basic)
     ≡ 2
