@@ -1,9 +1,9 @@
 -- What is noted last is the lowest broken rule, with the first name at which it is broken.
-use Rattle.std.proofs.Common.{◌≡◌, ℕ, ◌<◌, ◌≤◌, Bool, true, false, cond, List, [], ◌∷◌, Option, Some, None, eqb, ltb, refl, sym, ap, ◌∙◌, subst, arith, eq-eqb, eqb-true, ne_eqb, ltb-true, ltb-false}
-use Rattle.std.specs.Prelude.{◌↔◌, ◌⊎◌, nat_lt}
+use Rattle.std.proofs.Common.{◌≡◌, ℕ, ◌<◌, ◌≤◌, Bool, true, false, cond, List, [], ◌∷◌, Some, None, eqb, ltb, refl, sym, ap, ◌∙◌, subst, arith, eq-eqb, eqb-true, ne_eqb, ltb-true, ltb-false}
+use Rattle.std.specs.Prelude.{◌↔◌, nat_lt}
 use Rattle.std.proofs.Common.{inl, inr}
 use Rattle.std.proofs.lemmas.Bool.{eqb-false, cases_lt, cases_eq}
-use Rattle.rsml_syntax.specs.Breaches.{Breach, first_breach, IsLowest, noted, lowest, lower}
+use Rattle.rsml_syntax.specs.Breaches.{Breach, first_breach, IsLowest, noted, lowest}
 
 skips : (rule : ℕ) (a : Breach) (bs : List Breach) → rule < a.rule → first_breach rule (a ∷ bs) ≡ first_breach rule bs
 skips rule a bs h = let e : eqb a.rule rule ≡ false = ne_eqb a.rule rule (λ e. omega (arith, h, e)) in ap (λ t. cond t (Some a) (first_breach rule bs)) e

@@ -1,30 +1,22 @@
 -- Ground comparisons: those of all tables, read once for each instance and each value of a quantifier's variable.
-use Rattle.std.specs.Prelude.{ℕ, zero, suc, ◌+◌, Bool, true, false, not, ◌&&◌, ◌||◌, ◌==◌, List, [], ◌∷◌, ◌++◌, map, flat_map, filter, length, Option, Some, None, if◌then◌else◌, is_some, ℤ, pos, neg_ℤ, ◌+ℤ◌, ◌-ℤ◌, int_lt, int_le, unsigned_abs}
-use Rattle.std.specs.List.{list_any}
-use Rattle.std.specs.Option.{option_map, option_map_or}
+use Rattle.std.specs.Prelude.{ℕ, zero, suc, Bool, true, false, not, ◌&&◌, ◌==◌, List, [], ◌∷◌, ◌++◌, map, flat_map, Option, Some, None, if◌then◌else◌, ℤ, pos, unsigned_abs}
+use Rattle.std.specs.Option.{option_map_or}
 use Rattle.std.specs.Ordering.{int_eq}
-use Rattle.std.specs.Cmp.Lexicographic.{pointwise}
-use denote.Enum.Bare.{sameb}
-use Rattle.rsml_syntax.specs.contracts.syntax.Relation as relation_type
 use Rattle.rsml_syntax.specs.declared.syntax.Amount.{Amount}
 use Rattle.rsml_syntax.specs.declared.syntax.Index.{Index}
 use Rattle.rsml_syntax.specs.declared.syntax.Index.TheVariants as index
 use Rattle.rsml_syntax.specs.declared.syntax.Mention.{Mention}
 use Rattle.rsml_syntax.specs.declared.syntax.Relation.{Relation}
-use Rattle.rsml_syntax.specs.declared.syntax.Relation.TheVariants as relations
 use Rattle.rsml_syntax.specs.declared.syntax.Operand.{Operand}
 use Rattle.rsml_syntax.specs.declared.syntax.Operand.TheVariants as operands
-use Rattle.rsml_syntax.specs.declared.syntax.Term.{Term}
 use Rattle.rsml_syntax.specs.declared.syntax.Sum.{Sum}
 use Rattle.rsml_syntax.specs.declared.syntax.Simple.{Simple}
 use Rattle.rsml_syntax.specs.declared.syntax.Simple.TheVariants as simples
 use Rattle.rsml_syntax.specs.declared.syntax.Phrase.{Phrase}
 use Rattle.rsml_syntax.specs.declared.syntax.Phrase.TheVariants as phrases
 use Rattle.rsml_syntax.specs.declared.syntax.Row.{Row}
-use Rattle.rsml_syntax.specs.declared.syntax.Decl.{Decl}
-use Rattle.rsml_syntax.specs.declared.syntax.Decl.TheVariants as decl
 use Rattle.rsml_syntax.specs.Names.{Name, same}
-use Rattle.rsml_syntax.specs.Globals.{Known, Globals, signed, size_of, meaning, constant, number_of, many}
+use Rattle.rsml_syntax.specs.Globals.{Globals, size_of, meaning, constant, number_of, many}
 use Rattle.rsml_syntax.specs.Written.{rows_of, rows_in}
 use Rattle.rsml_syntax.specs.Parts.{Part, Declared, Opens, Closes, nearer, transitions_of}
 use Rattle.rsml_syntax.specs.Uses.{is_input}

@@ -1,5 +1,5 @@
 -- The breaches of a declaration: S1, S4, S5, S7 and S15 at its name, S1 and S14 at later names, and what it uses.
-use Rattle.std.specs.Prelude.{ℕ, ◌+◌, Bool, true, false, not, ◌&&◌, ◌||◌, ◌==◌, List, [], ◌∷◌, ◌++◌, map, flat_map, length, Option, Some, None, is_some, ℤ, int_lt, int_le, nat_lt}
+use Rattle.std.specs.Prelude.{ℕ, ◌+◌, Bool, true, false, not, ◌&&◌, ◌||◌, ◌==◌, List, [], ◌∷◌, ◌++◌, map, flat_map, length, Option, None, is_some, ℤ, int_lt, int_le, nat_lt}
 use Rattle.std.specs.List.{list_all}
 use Rattle.std.specs.Option.{option_map_or}
 use Rattle.rsml_syntax.specs.declared.syntax.Amount.{Amount}

@@ -11,7 +11,6 @@ use Rattle.rsml_syntax.specs.declared.syntax.Sum.{Sum}
 use Rattle.rsml_syntax.specs.declared.syntax.Simple.{Simple}
 use Rattle.rsml_syntax.specs.declared.syntax.Simple.TheVariants as simples
 use Rattle.rsml_syntax.specs.declared.syntax.Case.{Case}
-use Rattle.rsml_syntax.specs.declared.syntax.Decl.{Decl}
 use Rattle.rsml_syntax.specs.declared.syntax.Decl.TheVariants as decl
 use Rattle.rsml_syntax.specs.Names.{Name, same}
 use Rattle.rsml_syntax.specs.Globals.{Known, Globals, meaning}

@@ -5,7 +5,6 @@ use Rattle.std.specs.Option.{option_map_or}
 use Rattle.rsml_syntax.specs.declared.syntax.Phrase.{Phrase}
 use Rattle.rsml_syntax.specs.declared.syntax.Phrase.TheVariants as phrases
 use Rattle.rsml_syntax.specs.declared.syntax.Row.{Row}
-use Rattle.rsml_syntax.specs.declared.syntax.Decl.{Decl}
 use Rattle.rsml_syntax.specs.declared.syntax.Decl.TheVariants as decl
 use Rattle.rsml_syntax.specs.declared.syntax.Transition.{Transition}
 use Rattle.rsml_syntax.specs.declared.syntax.Spec.{Spec}

@@ -1,5 +1,5 @@
 -- Which inputs are named after `previous`.
-use Rattle.std.specs.Prelude.{Bool, false, List, [], ◌∷◌, ◌++◌, flat_map}
+use Rattle.std.specs.Prelude.{Bool, false, List, [], ◌++◌, flat_map}
 use Rattle.std.specs.List.{list_any}
 use Rattle.rsml_syntax.specs.declared.syntax.Operand.{Operand}
 use Rattle.rsml_syntax.specs.declared.syntax.Operand.TheVariants as operands

@@ -1,6 +1,6 @@
 -- How names are used: S2, S3 and S6 at a mention, S1 at a variable, S5 at sizes and bounds, S9 at paths, S15 at compared
 -- functions. Each function gives the breaches of its text in the order of the names that are shown.
-use Rattle.std.specs.Prelude.{ℕ, Bool, true, false, not, ◌&&◌, ◌||◌, List, [], ◌∷◌, ◌++◌, flat_map, find, Option, Some, None, if◌then◌else◌, is_none, ℤ, pos, nat_lt, nat_le}
+use Rattle.std.specs.Prelude.{Bool, true, false, not, ◌&&◌, ◌||◌, List, [], ◌∷◌, ◌++◌, flat_map, find, Option, Some, None, if◌then◌else◌, is_none, pos, nat_lt, nat_le}
 use Rattle.std.specs.List.{list_all}
 use Rattle.std.specs.Option.{option_map, option_map_or}
 use Rattle.rsml_syntax.specs.declared.syntax.Amount.{Amount}

@@ -1,19 +1,15 @@
 -- The limits, in examples: what just keeps each and what just breaks it. And the rules that bound a count.
-use Rattle.std.specs.Prelude.{◌≡◌, ℕ, ◌/◌, ◌%◌, ◌+◌, List, [], ◌∷◌, ◌++◌, map, replicate, Some, None, refl}
+use Rattle.std.specs.Prelude.{◌≡◌, ℕ, ◌/◌, ◌%◌, ◌+◌, List, [], ◌∷◌, map, replicate, Some, None, refl}
 use Rattle.rsml_syntax.specs.declared.syntax.Relation.TheVariants as relations
 use Rattle.rsml_syntax.specs.declared.syntax.Decl.{Decl}
 use Rattle.rsml_syntax.specs.declared.syntax.Decl.TheVariants as decl
-use Rattle.rsml_syntax.specs.declared.syntax.Amount.TheVariants as amounts
-use Rattle.rsml_syntax.specs.declared.syntax.Operand.TheVariants as operands
 use Rattle.rsml_syntax.specs.declared.syntax.Index.TheVariants as indices
 use Rattle.rsml_syntax.specs.declared.syntax.Row.{Row}
-use Rattle.rsml_syntax.specs.declared.syntax.Bus.{Bus}
 use Rattle.rsml_syntax.specs.declared.syntax.Body.{Body, Basic}
-use Rattle.rsml_syntax.specs.declared.syntax.Spec.{Spec}
 use Rattle.rsml_syntax.specs.Names.{Name}
 use Rattle.rsml_syntax.specs.Rules.{refused}
-use Rattle.rsml_syntax.specs.Limits.{over, Keeps, total, states_at, transitions_at, events_at, cells_at, definitions_at, rows_at, thresholds_and_keys}
-use Rattle.rsml_syntax.proofs.Examples.Writing.{up_to, plus, plain, at, by, this, number, name, previous, single, the, num, in_state, holds, compare, function_is, row, some, always, table, range, constant, from, input, event, macro, case, function, receive, unarrayed, arrayed, sum, more, less, Child, state, array, all, one, bus, stay, spec, shown, numbers}
+use Rattle.rsml_syntax.specs.Limits.{over, Keeps, total, rows_at}
+use Rattle.rsml_syntax.proofs.Examples.Writing.{up_to, plus, plain, previous, single, num, in_state, compare, row, some, always, table, range, from, input, event, macro, case, function, Child, state, array, all, one, bus, stay, spec, shown, numbers}
 
 -- the name of a number, in two letters: Ab is that of 1
 abbrev letters : ℕ → Name

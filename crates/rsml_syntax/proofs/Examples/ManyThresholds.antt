@@ -1,11 +1,9 @@
 -- A table with the rows `X < 1` to `X < n` has n thresholds, also where n is too great to compute them.
-use Rattle.std.proofs.Common.{◌≡◌, ℕ, zero, suc, ◌+◌, ◌<◌, ◌≤◌, Bool, true, false, List, [], ◌∷◌, ◌++◌, None, map, length, refl, sym, ap, ◌∙◌, arith, lt-ltb, le-leb, ne_eqb}
-use Rattle.std.specs.Prelude.{flat_map, ℤ, pos, int_lt, int_le, codes}
+use Rattle.std.proofs.Common.{◌≡◌, ℕ, zero, suc, ◌+◌, ◌<◌, ◌≤◌, false, List, [], ◌∷◌, ◌++◌, None, map, length, refl, ap, ◌∙◌, arith, lt-ltb, le-leb}
+use Rattle.std.specs.Prelude.{flat_map, pos, codes}
 use Rattle.std.specs.List.{list_any}
-use Rattle.std.specs.Ordering.{int_eq}
 use Rattle.rsml_syntax.specs.declared.syntax.Relation.TheVariants as relations
 use Rattle.rsml_syntax.specs.declared.syntax.Row.{Row}
-use Rattle.rsml_syntax.specs.declared.syntax.Decl.{Decl}
 use Rattle.rsml_syntax.specs.declared.syntax.Body.{Basic}
 use Rattle.rsml_syntax.specs.declared.syntax.Spec.{Spec}
 use Rattle.rsml_syntax.specs.Globals.{Globals, globals}
