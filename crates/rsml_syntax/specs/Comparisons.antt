@@ -16,29 +16,18 @@ use Rattle.rsml_syntax.specs.declared.syntax.Phrase.{Phrase}
 use Rattle.rsml_syntax.specs.declared.syntax.Phrase.TheVariants as phrases
 use Rattle.rsml_syntax.specs.declared.syntax.Row.{Row}
 use Rattle.rsml_syntax.specs.Names.{Name, same}
-use Rattle.rsml_syntax.specs.Globals.{Globals, size_of, meaning, constant, number_of, many}
+use Rattle.rsml_syntax.specs.Globals.{Globals, size_of, meaning, constant, number_of, many, indices, up_to}
 use Rattle.rsml_syntax.specs.Written.{rows_of, rows_in}
 use Rattle.rsml_syntax.specs.Parts.{Part, Declared, Opens, Closes, nearer, transitions_of}
 use Rattle.rsml_syntax.specs.Uses.{is_input}
 use Rattle.rsml_syntax.specs.Kinds.{function_cases}
-
--- INSTANCES
-
--- 1 to n
-abbrev pub up_to : ℕ → List ℕ
-up_to zero = []
-up_to (suc n) = up_to n ++ (suc n ∷ [])
-
--- the indices of what is declared with this size: 0 alone where it has none
-abbrev pub indices : Globals → Option Amount → List ℕ
-indices g None = 0 ∷ []
-indices g (Some amount) = up_to (many g (Some amount))
 
 -- What the indices stand for in one reading of a row.
 pub record Reading : Type 0 where
   pub this : ℕ
   pub variable : Option (Name × ℕ)
 
+-- the value of the variable of this name
 abbrev pub variable_value : Reading → Name → Option ℕ
 variable_value r name = option_map_or (λ v. if same v.0 name then Some v.1 else None) r.variable None
 
@@ -65,6 +54,7 @@ pub data Ground : Type 0 where
 abbrev pub GroundSum : Type 0
 GroundSum = List (Bool × Ground)
 
+-- the cell that a mention of an input is
 abbrev pub cell_of : Globals → Reading → Bool → Mention → Ground
 cell_of g r previous m = OfCell (record { previous = previous; input = m.name; at = index_number g r m.index })
 
@@ -74,20 +64,25 @@ ground g r (operands.Number n) = OfNumber (pos n)
 ground g r (operands.Mention m) = option_map_or (λ k. if is_input k then cell_of g r false m else OfNumber (number_of k)) (meaning g m.name) (OfNumber (pos 0))
 ground g r (operands.Previous m) = cell_of g r true m
 
+-- the terms of a sum with what they are in this reading
 abbrev pub ground_sum : Globals → Reading → Sum → GroundSum
 ground_sum g r sum = map (λ t. (t.minus, ground g r t.operand)) sum.terms
 
+-- both true, or both false
 abbrev pub same_truth : Bool → Bool → Bool
 same_truth a b = if a then b else not b
 
+-- one cell
 abbrev pub same_cell : Cell → Cell → Bool
 same_cell a b = same_truth a.previous b.previous && (a.at == b.at && same a.input b.input)
 
+-- one number, or one cell
 abbrev pub same_ground : Ground → Ground → Bool
 same_ground (OfNumber a) (OfNumber b) = int_eq a b
 same_ground (OfCell a) (OfCell b) = same_cell a b
 same_ground _ _ = false
 
+-- one sign, and one operand
 abbrev pub same_term : Bool × Ground → Bool × Ground → Bool
 same_term a b = same_truth a.0 b.0 && same_ground a.1 b.1
 
@@ -117,6 +112,7 @@ phrase_comparisons g this (phrases.Plain body) = comparisons_in g (record { this
 phrase_comparisons g this (phrases.Any x bound body) = flat_map (λ n. comparisons_in g (record { this = this; variable = Some (x, n) }) body) (up_to (many g (Some bound)))
 phrase_comparisons g this (phrases.Every x bound body) = flat_map (λ n. comparisons_in g (record { this = this; variable = Some (x, n) }) body) (up_to (many g (Some bound)))
 
+-- the comparisons of rows in the instance of this index
 abbrev pub rows_comparisons : Globals → List Row → ℕ → List Comparison
 rows_comparisons g rows this = flat_map (λ row. phrase_comparisons g this row.phrase) rows
 

@@ -80,6 +80,7 @@ rows_at g (Declared _ d) = many g (size_of d) * adds (ground_rows g) (rows_in d)
 rows_at g (Opens _) = 0
 rows_at g (Closes s) = instances g s * adds (λ t. sources s t * adds (ground_rows g) (rows_of t.guard)) (transitions_of s.body)
 
+-- the ground comparisons of all tables
 abbrev pub all_comparisons : Spec → List Comparison
 all_comparisons s = flat_map (comparisons (globals s.decls)) (parts s)
 

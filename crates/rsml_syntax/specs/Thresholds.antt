@@ -20,6 +20,7 @@ abbrev pub single_cell : GroundSum → Option Cell
 single_cell ((false, OfCell cell) ∷ []) = Some cell
 single_cell _ = None
 
+-- a number of this sign more; none where there is a cell
 abbrev pub plus : Bool → Ground → Option ℤ → Option ℤ
 plus minus (OfNumber n) (Some rest) = Some ((if minus then neg_ℤ n else n) +ℤ rest)
 plus minus _ _ = None
@@ -66,9 +67,11 @@ is_inner g input n = option_map_or (λ k. int_lt (ends g k).0 n && int_le n (end
 abbrev pub Threshold : Type 0
 Threshold = Cell × ℤ
 
+-- one number of one cell
 abbrev pub same_threshold : Threshold → Threshold → Bool
 same_threshold a b = int_eq a.1 b.1 && same_cell a.0 b.0
 
+-- those that the comparison of a cell with a constant asks for
 abbrev pub cell_thresholds : Globals → Option Cell → Relation → Option ℤ → List Threshold
 cell_thresholds g (Some cell) relation (Some c) = map (λ n. (cell, n)) (filter (is_inner g cell.input) (asked relation c))
 cell_thresholds g _ relation _ = []
@@ -97,6 +100,7 @@ key x = of x.relation
     of relations.NotEqual = comparison_of x.left relations.Equal x.right
     of _ = x
 
+-- one relation, and sums that are equal term by term
 abbrev pub same_key : Comparison → Comparison → Bool
 same_key a b = sameb relation_type.the_type a.relation b.relation && (pointwise same_term a.left b.left && pointwise same_term a.right b.right)
 

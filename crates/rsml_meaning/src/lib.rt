@@ -1,0 +1,2 @@
+//! What a specification means: definitions, and laws about them.
+#![tactic(auto)]
