@@ -8,6 +8,7 @@ use Rattle.rsml_syntax.specs.declared.syntax.Row.{Row}
 use Rattle.rsml_syntax.specs.declared.syntax.Body.{Body, Basic}
 use Rattle.rsml_syntax.specs.Names.{Name}
 use Rattle.rsml_syntax.specs.Rules.{refused}
+use Rattle.rsml_syntax.specs.Limits as limit
 use Rattle.rsml_syntax.specs.Limits.{over, Keeps, total, rows_at}
 use Rattle.rsml_syntax.proofs.Examples.Writing.{up_to, plus, plain, previous, single, num, in_state, compare, row, some, always, table, range, from, input, event, macro, case, function, Child, state, array, all, one, bus, stay, spec, shown, numbers}
 
@@ -135,3 +136,11 @@ rows_count_for_each_member :
     ∷ [])))
     ≡ 36
 rows_count_for_each_member = refl
+
+-- WHAT IS SHOWN
+
+a_count_is_shown : limit.shown 65537 ≡ 65537
+a_count_is_shown = refl
+
+a_count_of_more_than_64_bits_is_shown_as_the_greatest : limit.shown 18446744073709551616 ≡ 18446744073709551615
+a_count_of_more_than_64_bits_is_shown_as_the_greatest = refl
