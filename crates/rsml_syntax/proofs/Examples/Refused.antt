@@ -78,7 +78,7 @@ a_sum_has_at_most_8_terms :
 a_sum_has_at_most_8_terms = refl
 
 -- the lamp specification, whose first guard is given
-abbrev lamp : Guard → Spec
+abbrev pub lamp : Guard → Spec
 lamp first =
     specification "Lamp" (switched (event "Tick" None ∷ receive "Set" None (plain "Lever" ∷ []) (plain "Tick") ∷ [])) "Lamp" (one "Off" (state "Off" Basic ∷ state "On" Basic ∷ []) []
     (move "Off" ("On" ∷ []) (plain "Tick") first []
