@@ -19,6 +19,7 @@ pub mod Rules
 pub mod Scopes
 pub mod States
 pub mod Tables
+pub mod Thresholds
 pub mod Tokens
 pub mod Uses
 pub mod WellFormed

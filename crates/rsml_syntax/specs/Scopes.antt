@@ -19,13 +19,14 @@ pub record Variable : Type 0 where
 -- What all judging looks at.
 pub record Whole : Type 0 where
   pub globals : Globals
-  pub variables : List Variable         -- those in declarations, in order
+  pub variables : List Variable  -- those in declarations, in order
   pub top : Name
-  pub children : List StateDecl         -- of the top state
+  pub children : List StateDecl  -- of the top state
 
 abbrev pub variable_at : ℕ → Name → Variable
 variable_at place name = record { name = name; place = place }
 
+-- the variables in a declaration
 abbrev pub variables_of_part : Part → List Variable
 variables_of_part (Declared place d) = map (variable_at place) (variables_in d)
 variables_of_part _ = []
@@ -40,9 +41,9 @@ first_bound w name = option_map (λ v. v.place) (find (λ v. same name v.name) w
 
 -- Where a mention stands.
 pub record Scope : Type 0 where
-  pub before : ℕ                        -- the global names with a lower place are declared before it
-  pub this : Option ℤ                   -- the size of what `this` is an index of
-  pub variable : Option (Name × ℤ)      -- that of the quantifier around it, with its bound
+  pub before : ℕ  -- the global names with a lower place are declared before it
+  pub this : Option ℤ  -- the size of what `this` is an index of
+  pub variable : Option (Name × ℤ)  -- that of the quantifier around it, with its bound
 
 -- 1 to the highest
 abbrev pub is_up_to : ℤ → ℤ → Bool

@@ -2,6 +2,7 @@
 #![tactic(auto)]
 
 mod edition;
+mod laws;
 mod list;
 mod no_memory;
 mod syntax;
@@ -11,6 +12,7 @@ mod want;
 mod world;
 
 pub use edition::Edition;
+pub use laws::refused_is_lowest;
 pub use list::List;
 pub use no_memory::NoMemory;
 pub use syntax::{
