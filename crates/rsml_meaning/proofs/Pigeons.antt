@@ -55,8 +55,8 @@ all_still : (f : Instance) (es us : List Instance) → has es f ≡ false → wi
 all_still f [] us d h = refl
 all_still f (e ∷ es) us d h =
     both (has (without f us) e) (within es (without f us))
-      (still_among f e us (or_first (same_instance f e) (has es f) d) (first_so (has us e) (within es us) h))
-      (all_still f es us (or_second (same_instance f e) (has es f) d) (second_so (has us e) (within es us) h))
+    (still_among f e us (or_first (same_instance f e) (has es f) d) (first_so (has us e) (within es us) h))
+    (all_still f es us (or_second (same_instance f e) (has es f) d) (second_so (has us e) (within es us) h))
   where
     or_first : (a b : Bool) → (a || b) ≡ false → a ≡ false
     or_first true b k = absurd (true≢false k)
@@ -97,7 +97,7 @@ first_twice f es h = by_test (same_instance f f) (instance_itself f) (counted f 
 pub too_many : (us es : List Instance) → within es us ≡ true → suc (length us) ≤ length es → HasTwice es
 too_many us [] h k = absurd (omega arith)
 too_many us (f ∷ es) h k = by_test (has es f) refl (λ d. too_many (without f us) es (all_still f es us d (second_so (has us f) (within es us) h))
-      (let short = without_short f us (first_so (has us f) (within es us) h) in omega (arith, short, k)))
+    (let short = without_short f us (first_so (has us f) (within es us) h) in omega (arith, short, k)))
   where
     by_test : (b : Bool) → has es f ≡ b → (has es f ≡ false → HasTwice es) → HasTwice (f ∷ es)
     by_test true q rest = record { event = f; twice = first_twice f es q }

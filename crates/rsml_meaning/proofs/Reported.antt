@@ -47,7 +47,7 @@ last_present : (s : Spec) (x : Instance) (es : List Instance) (e : Instance) (pr
 last_present s x [] e present h k l = subst (λ z. has present z ≡ true) (sym (instance_same e x l)) k
 last_present s x (f ∷ es) e present h k l =
     last_present s f es e (raised_by_all s present) (second_so (leads s x f) (linked s (f ∷ es)) h)
-      (in_flat (transitions s) present x f k (is_raised (transitions s) x f (first_so (leads s x f) (linked s (f ∷ es)) h))) l
+    (in_flat (transitions s) present x f k (is_raised (transitions s) x f (first_so (leads s x f) (linked s (f ∷ es)) h))) l
 
 itself : (x y : Instance) → same_instance x y ≡ true → has (x ∷ []) y ≡ true
 itself x y h = let e = instance_same x y h in subst (λ z. has (x ∷ []) z ≡ true) e (ap (λ b. b || false) (subst (λ z. same_instance x z ≡ true) (sym e) h))
@@ -96,7 +96,7 @@ no_such_clash n s test x m e f h c t =
     let of_e = passes (λ y. list_all (λ z. not (clashes s y z && test (suc one.round) y z)) present) present e round one.among in
     let of_f = passes (λ z. not (clashes s e z && test (suc one.round) e z)) present f of_e (subst (λ i. has (rounds_on i s (x ∷ [])) f ≡ true) same two.among) in
     not_true (clashes s e f && test (suc one.round) e f) of_f
-      (both (clashes s e f) _ (both (not (same_instance e f)) _ c.differ c.together) (subst (λ i. test i e f ≡ true) one.is t))
+    (both (clashes s e f) _ (both (not (same_instance e f)) _ c.differ c.together) (subst (λ i. test i e f ≡ true) one.is t))
 
 abbrev pub every : ℕ → Instance → Instance → Bool
 every m e f = true
@@ -133,7 +133,7 @@ no_loop n s e h l = by_list l.0 l.1 l.2
     by_list [] k t = true≢false (sym k)
     by_list (x ∷ es) k t =
         twice_is_unbounded s x n (x ∷ es) e (λ fs c. chain_short n s x fs (external_passes (ends_in n s) (receives s) x h (first_so (is_external s x) (linked s (x ∷ es)) k)) c)
-          (both (is_chain s (x ∷ es)) (same_instance x x) k (Rattle.rsml_meaning.proofs.Same.instance_itself x)) t
+        (both (is_chain s (x ∷ es)) (same_instance x x) k (Rattle.rsml_meaning.proofs.Same.instance_itself x)) t
 
 -- no event loops
 pub no_loops : (n : ℕ) (s : Spec) (es : List Instance) → all_short n s ≡ true → AllZip (λ e looping. IsTrue looping ↔ Loops s e) es (map (λ e. false) es)

@@ -96,7 +96,7 @@ way_is (suc n) s e es h =
     by_rest f among (Some fs) q r rest =
         let tail = rest fs q in
         subst (λ xs. IsWay s e xs (suc n)) (let same : f ∷ fs ≡ es = cc in same)
-          (record { linked_so = both (leads s e f) (linked s (f ∷ fs)) (raised_leads (transitions s) e f among) tail.linked_so; long = let l = tail.long in omega (arith, l) })
+        (record { linked_so = both (leads s e f) (linked s (f ∷ fs)) (raised_leads (transitions s) e f among) tail.linked_so; long = let l = tail.long in omega (arith, l) })
     by_rest f among None q r rest = cc
 
 no_way : (n : ℕ) (s : Spec) (e : Instance) (es : List Instance) → way n s e ≡ None → linked s (e ∷ es) ≡ true → n ≤ length es → ⊥
@@ -147,7 +147,7 @@ linked_within : (s : Spec) (e : Instance) (es : List Instance) → linked s (e �
 linked_within s e [] h = refl
 linked_within s e (f ∷ es) h =
     both (has (all_raised s) f) (within es (all_raised s)) (raised_among (transitions s) e f (first_so (leads s e f) (linked s (f ∷ es)) h))
-      (linked_within s f es (second_so (leads s e f) (linked s (f ∷ es)) h))
+    (linked_within s f es (second_so (leads s e f) (linked s (f ∷ es)) h))
 
 chain_is : (s : Spec) (x : Instance) (es : List Instance) → is_external s x ≡ true → linked s (x ∷ es) ≡ true → IsChainFrom s x (x ∷ es)
 chain_is s x es h k = both (is_chain s (x ∷ es)) (same_instance x x) (both (is_external s x) (linked s (x ∷ es)) h k) (instance_itself x)
@@ -177,7 +177,10 @@ length_or_endless s x h = by_way (way (suc (length (all_raised s))) s x) refl
     by_way None q =
         let l = longest (suc (length (all_raised s))) s x q in
         let w = way_is l.count s x l.events l.is in
-        inl (suc l.count, record {
-          reached = (x ∷ l.events, chain_is s x l.events h w.linked_so, ap suc w.long);
-          most = λ es k. at_most l.count s x es l.most k;
-        })
+        inl (
+          suc l.count,
+          record {
+            reached = (x ∷ l.events, chain_is s x l.events h w.linked_so, ap suc w.long);
+            most = λ es k. at_most l.count s x es l.most k;
+          },
+        )

@@ -8,7 +8,7 @@ use Rattle.rsml_syntax.specs.declared.syntax.Initial.{Initial}
 use Rattle.rsml_syntax.specs.declared.syntax.Initial.TheVariants as initials
 use Rattle.rsml_syntax.specs.Names.{Name}
 use Rattle.rsml_syntax.specs.Globals.{Globals, Known, meaning, number, signed, values_of}
-use Rattle.rsml_syntax.specs.Comparisons.{type_ends}
+use Rattle.rsml_syntax.specs.Thresholds.{type_ends}
 use Rattle.rsml_syntax.specs.Previous.{names_previous}
 use Rattle.rsml_meaning.specs.Words.{Instance}
 use Rattle.rsml_meaning.specs.Instances.{globals_of, instances}
@@ -19,9 +19,11 @@ pub record InputType : Type 0 where
   pub high : ℤ
   pub names : List Name
 
+-- a type of its ends and its names
 abbrev pub new_type : ℤ × ℤ → List Name → InputType
 new_type ends names = record { low = ends.0; high = ends.1; names = names }
 
+-- what a name that is no type stands for
 abbrev pub no_type : InputType
 no_type = new_type (pos 0, pos 0) []
 
@@ -29,6 +31,7 @@ no_type = new_type (pos 0, pos 0) []
 abbrev pub type_named : Globals → Name → InputType
 type_named g name = option_map_or (λ k. new_type (type_ends k) (values_of k.decl)) (meaning g name) no_type
 
+-- the type of what is known of an input
 abbrev pub type_by : Globals → Known → InputType
 type_by g k = elim k.decl [ decl.Input _ _ type_name _ ↦ type_named g type_name | _ ↦ no_type ]
 
@@ -48,20 +51,25 @@ pub record InputCell : Type 0 where
   pub numbers : InputType
   pub initial : ℤ
 
+-- the number that an initial value writes
 abbrev pub initial_number : Globals → Initial → ℤ
 initial_number g (initials.Number n) = signed n
 initial_number g (initials.Name name) = number g name
 
+-- the cell of an instance, with its type and first number
 abbrev pub new_cell : InputType → ℤ → Instance → InputCell
 new_cell numbers initial input = record { input = input; previous = false; numbers = numbers; initial = initial }
 
+-- the cells that a declaration makes
 abbrev pub cells_of : Globals → Decl → List InputCell
 cells_of g (decl.Input name size type_name initial) = map (new_cell (type_named g type_name) (initial_number g initial)) (instances g name size)
 cells_of g _ = []
 
+-- the cells of all inputs
 abbrev pub own_cells : Spec → List InputCell
 own_cells s = flat_map (cells_of (globals_of s)) s.decls
 
+-- the previous cell of a cell
 abbrev pub as_previous : InputCell → InputCell
 as_previous c = record c { previous = true }
 

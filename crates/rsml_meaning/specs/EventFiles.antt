@@ -6,6 +6,7 @@ use Rattle.rsml_meaning.specs.EventLines.{Bytes, pieces, is_skipped, LineRule, M
 
 -- Lines.
 
+-- the pieces without an empty one at the end
 abbrev pub without_empty_last : List Bytes → List Bytes
 without_empty_last [] = []
 without_empty_last ([] ∷ []) = []
@@ -21,10 +22,12 @@ pub record Line : Type 0 where
   pub start : ℕ
   pub bytes : Bytes
 
+-- lines with their numbers and offsets, from a number and an offset on
 abbrev pub placed_from : ℕ → ℕ → List Bytes → List Line
 placed_from number start [] = []
 placed_from number start (line ∷ lines) = record { number = number; start = start; bytes = line } ∷ placed_from (suc number) (start + length line + 1) lines
 
+-- the lines of a file, with their numbers and offsets
 abbrev pub lines_of : Bytes → List Line
 lines_of file = placed_from 1 0 (lines file)
 
@@ -73,6 +76,7 @@ pub data FileFault : Type 0 where
   broken_line : ℕ → LineRule → FileFault
   long_file : FileFault
 
+-- the line has more bytes than it may
 abbrev pub is_long : Limits → Line → Bool
 is_long limits line = nat_lt limits.line (length line.bytes)
 

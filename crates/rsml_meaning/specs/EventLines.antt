@@ -12,6 +12,7 @@ use Rattle.rsml_meaning.specs.Instances.{globals_of}
 use Rattle.rsml_meaning.specs.Cells.{InputType, input_type, is_of}
 use Rattle.rsml_meaning.specs.Interfaces.{ReceiveInstance, new_receive}
 
+-- what a file or a line holds
 abbrev pub Bytes : Type 0
 Bytes = List ℕ
 
@@ -31,6 +32,7 @@ pieces parts (c ∷ cs) = if parts c then [] ∷ pieces parts cs else before_pie
 abbrev pub is_blank : ℕ → Bool
 is_blank c = c == 32 || c == 9
 
+-- there is no byte
 abbrev pub is_empty : Bytes → Bool
 is_empty [] = true
 is_empty (c ∷ cs) = false
@@ -46,9 +48,11 @@ is_skipped (c ∷ cs) = if is_blank c then is_skipped cs else c == 35
 
 -- Numbers and values.
 
+-- `0` to `9`
 abbrev pub is_digit : ℕ → Bool
 is_digit c = nat_le 48 c && nat_le c 57
 
+-- one or more digits
 abbrev pub is_digits : Bytes → Bool
 is_digits text = not (is_empty text) && list_all is_digit text
 
@@ -79,6 +83,7 @@ pub record Interface : Type 0 where
   pub inputs : List Mention
   pub raised : Mention
 
+-- what is known of a receive
 abbrev pub interface_by : Known → Option Interface
 interface_by k = elim k.decl [ decl.Receive _ size inputs raised ↦ Some (record { size = size; inputs = inputs; raised = raised }) | _ ↦ None ]
 
@@ -116,6 +121,7 @@ pub record Fields : Type 0 where
   pub values : List Bytes
   pub more : List Bytes
 
+-- one more value before the others
 abbrev pub add_value : Bytes → Fields → Fields
 add_value value f = record f { values = value ∷ f.values }
 
@@ -176,6 +182,7 @@ read_instance g word i words = elim (index_told g i.size (index_part word)) [
   | Some index ↦ read_fields g (map (λ m. m.name) i.inputs) (new_receive g (name_part word) i.inputs i.raised index) words
 ]
 
+-- the first word is the name of a receive, up to a `[`
 abbrev pub read_words : Globals → List Bytes → Outcome
 read_words g [] = breaks E2
 read_words g (word ∷ words) = elim (interface g (name_part word)) [ None ↦ breaks E2 | Some i ↦ read_instance g word i words ]

@@ -11,16 +11,17 @@ use Rattle.rsml_syntax.specs.declared.syntax.Case.{Case}
 use Rattle.rsml_syntax.specs.Names.{Name, is_in}
 use Rattle.rsml_syntax.specs.Written.{simple_of, rows_of}
 
--- the names of the macros and functions that are used
-
+-- the macro or function that is named
 abbrev pub used_by_simple : Simple → List Name
 used_by_simple (simples.Macro m) = m.name ∷ []
 used_by_simple (simples.Function f relation right) = f.name ∷ []
 used_by_simple _ = []
 
+-- those that are named in rows
 abbrev pub used_by_rows : List Row → List Name
 used_by_rows rows = flat_map (λ row. used_by_simple (simple_of row.phrase)) rows
 
+-- those that are named in guards of cases
 abbrev pub used_by_cases : List Case → List Name
 used_by_cases cases = flat_map (λ c. used_by_rows (rows_of c.guard)) cases
 
@@ -35,5 +36,6 @@ in_order known (decl.Macro name size rows ∷ ds) = may_declare known name (used
 in_order known (decl.Function name size cases ∷ ds) = may_declare known name (used_by_cases cases) && in_order (name ∷ known) ds
 in_order known (d ∷ ds) = in_order known ds
 
+-- macros and functions have names of their own, and are used after their declaration alone
 abbrev pub IsInOrder : Spec → Type 0
 IsInOrder s = IsTrue (in_order [] s.decls)

@@ -35,6 +35,7 @@ pub record State : Type 0 where
   pub path : Path
   pub component : Option Component
 
+-- a component of its parts
 abbrev pub new_component : Path → Name → List Name → List Bus → List Transition → Component
 new_component path first children buses transitions =
     record { path = path; first = first; children = children; buses = buses; transitions = transitions }
@@ -49,6 +50,7 @@ abbrev pub component_of : Body → Path → Option Component
 component_of (One' first _ children buses transitions) path = Some (new_component path first (row_names children) buses transitions)
 component_of _ path = None
 
+-- the state instance with this body at a path
 abbrev pub new_state : Body → Path → State
 new_state body path = record { path = path; component = component_of body path }
 
@@ -84,6 +86,7 @@ components s = filter_map (λ x. x.component) (states s)
 
 -- Events.
 
+-- the events that a declaration makes
 abbrev pub events_of : Globals → Decl → List Instance
 events_of g (decl.Event name size) = instances g name size
 events_of g _ = []

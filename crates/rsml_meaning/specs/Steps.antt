@@ -19,6 +19,7 @@ use Rattle.rsml_meaning.specs.Interfaces.{SendCaseInstance, send_cases, is_sendi
 abbrev pub given_by : Component → TransitionInstance → Option ℕ
 given_by c t = elim t.target [ None ↦ None | Some target ↦ given t.component target c ]
 
+-- these, or the old one where there are none
 abbrev pub or_kept : ℕ → List ℕ → List ℕ
 or_kept n [] = n ∷ []
 or_kept n (m ∷ ms) = m ∷ ms
@@ -32,10 +33,12 @@ pub record Sent : Type 0 where
   pub send_case : SendCaseInstance
   pub values : List ℤ
 
+-- a number is the value of what is sent: of a sum, or one that a function gives
 abbrev pub IsValue : View → Reading → Value → ℤ → Type 0
 IsValue v r (values.Sum x) n = n ≡ sum v r x
 IsValue v r (values.Function f) n = Gives v (instance v.names r f) n
 
+-- the numbers are the values of an answer, one for each; none where it is quiet
 abbrev pub AreValues : View → Reading → Answer → List ℤ → Type 0
 AreValues v r answers.Quiet ns = ns ≡ []
 AreValues v r (answers.Values xs) ns = AllZip (IsValue v r) xs ns

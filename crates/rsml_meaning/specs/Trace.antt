@@ -31,6 +31,7 @@ names_of_kind g _ = []
 abbrev pub field_text : Globals → Name × (Value × ℤ) → Text
 field_text g f = codes " " ++ (f.0 ++ (codes "=" ++ value_text (names_of_kind g (value_kind g f.1.0)) f.1.1))
 
+-- the send instance and its fields
 abbrev pub send_text : Globals → SendCaseInstance → List Value → List ℤ → Text
 send_text g c values numbers = instance_text c.send ++ flat_map (field_text g) (zip c.fields (zip values numbers))
 
@@ -38,15 +39,19 @@ send_text g c values numbers = instance_text c.send ++ flat_map (field_text g) (
 abbrev pub send_line : Globals → Sent → Text
 send_line g c = elim c.send_case.answer [ answers.Quiet ↦ [] | answers.Values values ↦ text_line (codes "    send " ++ send_text g c.send_case values c.values) ]
 
+-- `round R` and the present events
 abbrev pub round_line : ℕ → List Instance → Text
 round_line n present = text_line (codes "  round " ++ (decimal n ++ flat_map (λ e. codes " " ++ instance_text e) present))
 
+-- a round with its number: what is present, what is taken, what is sent
 abbrev pub round_text : Globals → ℕ × Round → Text
 round_text g r = round_line r.0 r.1.present ++ (flat_map (λ t. text_line (codes "    take " ++ label t)) r.1.taken ++ flat_map (send_line g) r.1.sent)
 
+-- `event N INTERFACE`
 abbrev pub event_line : ℕ → Instance → Text
 event_line n receive = text_line (codes "event " ++ (decimal n ++ (codes " " ++ instance_text receive)))
 
+-- what one event does, with its number
 abbrev pub reaction_text : Globals → ℕ × Reaction → Text
 reaction_text g r = event_line r.0 r.1.receive ++ flat_map (round_text g) (numbered r.1.rounds)
 

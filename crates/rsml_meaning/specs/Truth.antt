@@ -58,11 +58,13 @@ instance g r m = at m.name (index_number g r m.index)
 abbrev pub mentioned : View → Reading → Mention → ℤ
 mentioned v r m = elim (option_map_or is_input (meaning v.names m.name) false) [ true ↦ v.input (instance v.names r m) | false ↦ number v.names m.name ]
 
+-- the number of an operand
 abbrev pub operand : View → Reading → Operand → ℤ
 operand v r (operands.Number n) = pos n
 operand v r (operands.Mention m) = mentioned v r m
 operand v r (operands.Previous m) = v.previous (instance v.names r m)
 
+-- the number of a term, with its sign
 abbrev pub term : View → Reading → Term → ℤ
 term v r t = if t.minus then neg_ℤ (operand v r t.operand) else operand v r t.operand
 
@@ -72,12 +74,14 @@ sum v r x = fold (λ a t. a +ℤ term v r t) (pos 0) x.terms
 
 -- Phrases.
 
+-- the truth of a phrase without a quantifier
 abbrev pub simple : View → Reading → Simple → Bool
 simple v r (simples.In path) = v.is_active (map (instance v.names r) path)
 simple v r (simples.Macro m) = v.holds (instance v.names r m)
 simple v r (simples.Compare left relation right) = compare relation (sum v r left) (sum v r right)
 simple v r (simples.Function f relation right) = list_any (λ x. compare relation x (sum v r right)) (v.gives (instance v.names r f))
 
+-- the truth of a phrase: `some` and `every` go over the values of their variable
 abbrev pub phrase : View → Reading → Phrase → Bool
 phrase v r (phrases.Plain body) = simple v r body
 phrase v r (phrases.Any name bound body) = list_any (λ i. simple v (quantified r name i) body) (indices v.names (Some bound))
@@ -85,12 +89,15 @@ phrase v r (phrases.Every name bound body) = list_all (λ i. simple v (quantifie
 
 -- Tables and guards.
 
+-- the truth of a row's phrase, and its cells
 abbrev pub row_truth : View → Reading → Row → TableRow
 row_truth v r row = (phrase v r row.phrase, row.cells)
 
+-- the truth of a table
 abbrev pub table : View → Reading → List Row → Bool
 table v r rows = table_truth (map (row_truth v r) rows)
 
+-- the truth of a guard
 abbrev pub guard : View → Reading → Guard → Bool
 guard v r guards.Always = true
 guard v r (guards.Table rows) = table v r rows
@@ -101,6 +108,7 @@ values_given v r cases = flat_map (λ c. if guard v r c.guard then sum v r c.val
 
 -- Macros and functions: each is read by what is declared before it.
 
+-- what a view says after one more declaration
 abbrev pub learn : View → Decl → View
 learn v (decl.Macro name size rows) = record v { holds = λ i. elim (same name i.name) [ true ↦ table v (within i.index) rows | false ↦ v.holds i ] }
 learn v (decl.Function name size cases) = record v { gives = λ i. elim (same name i.name) [ true ↦ values_given v (within i.index) cases | false ↦ v.gives i ] }
@@ -110,6 +118,7 @@ learn v _ = v
 abbrev pub bare : Spec → World → View
 bare s w = record { names = globals_of s; is_active = active s w; input = cell s w false; previous = cell s w true; holds = λ i. false; gives = λ i. [] }
 
+-- what can be asked of a world of a specification
 abbrev pub view : Spec → World → View
 view s w = fold learn (bare s w) s.decls
 

@@ -8,9 +8,11 @@ use Rattle.rsml_syntax.specs.declared.world.Step.{Step}
 abbrev pub Instance : Type 0
 Instance = Step
 
+-- the instance of a name at an index
 abbrev pub at : Name → ℕ → Instance
 at name index = record { name = name; index = index }
 
+-- names and indices are equal
 abbrev pub same_instance : Instance → Instance → Bool
 same_instance x y = same x.name y.name && nat_eq x.index y.index
 
@@ -30,14 +32,17 @@ Path = List Step
 abbrev pub child_path : Path → Step → Path
 child_path path step = path ++ (step ∷ [])
 
+-- the first path begins the second
 abbrev pub is_prefix : Path → Path → Bool
 is_prefix [] q = true
 is_prefix (x ∷ p) [] = false
 is_prefix (x ∷ p) (y ∷ q) = same_instance x y && is_prefix p q
 
+-- the first path begins the second and is shorter
 abbrev pub is_proper_prefix : Path → Path → Bool
 is_proper_prefix p q = is_prefix p q && nat_lt (length p) (length q)
 
+-- each begins the other
 abbrev pub same_path : Path → Path → Bool
 same_path p q = is_prefix p q && is_prefix q p
 
@@ -50,6 +55,7 @@ abbrev pub first_some : {A B : Type 0} → (A → Option B) → List A → Optio
 first_some f [] = None
 first_some f (x ∷ xs) = elim (f x) [ Some y ↦ Some y | None ↦ first_some f xs ]
 
+-- each with its number, from this number on
 abbrev pub numbered_from : {A : Type 0} → ℕ → List A → List (ℕ × A)
 numbered_from n [] = []
 numbered_from n (x ∷ xs) = (n, x) ∷ numbered_from (suc n) xs

@@ -1,16 +1,19 @@
 -- Groups, lines, conditions and verdicts, computed over all worlds.
-use Rattle.std.specs.Prelude.{◌≡◌, refl, true, false, List, [], ◌∷◌, map, pos, codes}
+use Rattle.std.specs.Prelude.{◌≡◌, refl, ℕ, true, false, List, [], ◌∷◌, map, pos, codes}
 use Rattle.std.specs.Fmt.{digits}
 use Rattle.rsml_syntax.specs.declared.syntax.Spec.{Spec}
 use Rattle.rsml_meaning.specs.Words.{Instance, at, Path}
+use Rattle.rsml_syntax.specs.declared.world.World.{World}
 use Rattle.rsml_meaning.specs.Truth.{view}
+use Rattle.rsml_meaning.specs.Interfaces.{FunctionInstance, functions}
 use Rattle.rsml_meaning.specs.Transitions.{line}
-use Rattle.rsml_meaning.specs.Groups.{Group, state, groups, meets}
-use Rattle.rsml_meaning.specs.Findings.{IsVerdict, sound, none}
+use Rattle.rsml_meaning.specs.Groups.{Group, state, function, groups, meets, enabled_count}
+use Rattle.rsml_meaning.specs.Findings.{IsVerdict, sound, none, two}
 use Rattle.rsml_meaning.specs.Texts.{Text, label}
 use Rattle.rsml_meaning.specs.Report.{finding, group_text}
 use Rattle.rsml_meaning.proofs.Verdicts.{verdict_is}
 use Rattle.rsml_meaning.proofs.examples.Worlds.{world, state_at}
+use Rattle.rsml_meaning.proofs.values.Grades.{grades}
 use Rattle.rsml_meaning.proofs.values.Lamp.{lamp}
 use Rattle.rsml_meaning.proofs.values.LampShort.{lamp_short}
 use Rattle.rsml_meaning.proofs.values.Panel.{panel}
@@ -73,3 +76,22 @@ the_condition_of_the_lowest_active_state_holds = refl
 
 the_line_of_an_ancestor_and_its_child_is_sound : IsVerdict top (state a_b tick) sound
 the_line_of_an_ancestor_and_its_child_is_sound = verdict_is top (state a_b tick) sound refl
+
+-- A function with two cases, of which both are true from 500 to 999.
+
+abbrev alt : ℕ → World
+alt n = world (0 ∷ []) (pos n ∷ [])
+
+abbrev first_function : List FunctionInstance → Group
+first_function [] = function (record { function = at [] 0; cases = [] })
+first_function (f ∷ fs) = function f
+
+abbrev level : Group
+level = first_function (functions grades)
+
+true_cases_are_counted : map (λ n. enabled_count grades level (view grades (alt n))) (499 ∷ 500 ∷ 999 ∷ 1000 ∷ []) ≡ 1 ∷ 2 ∷ 2 ∷ 1 ∷ []
+true_cases_are_counted = refl
+
+two_true_cases_are_printed : finding grades (level, two (alt 500)) ≡ codes "two function Level\n  Alt = 500 | T\n  enabled case 1\n  enabled case 2\n  confirmed\n"
+unfolding digits
+two_true_cases_are_printed = refl
