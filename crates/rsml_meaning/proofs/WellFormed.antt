@@ -2,6 +2,7 @@
 use Rattle.std.proofs.Common.{◌≡◌, ℕ, suc, ◌+◌, ◌≤◌, Bool, true, false, ◌&&◌, cond, List, [], ◌∷◌, length, Option, Some, None, is_none, if◌then◌else◌, ◌==◌, nat_lt, take_while, refl, sym, ap, ◌∙◌, arith}
 use Rattle.std.proofs.lemmas.Bool.Decides.{nat_tests}
 use Rattle.std.proofs.lemmas.List.Sums.{take_while-cons}
+use Rattle.std.specs.Str.{byte}
 use Rattle.rsml_syntax.specs.declared.syntax.Spec.{Spec}
 use Rattle.rsml_meaning.specs.Words.{Each, first_some}
 use Rattle.rsml_meaning.specs.EventLines.{Bytes, pieces, before_pieces, LineRule}
@@ -34,7 +35,7 @@ without_total ([] ∷ x ∷ xs) = omega (arith, without_total (x ∷ xs))
 without_total ((c ∷ cs) ∷ xs) = omega (arith, without_total xs)
 
 lines_total : (file : Bytes) → length file ≤ total (lines file)
-lines_total file = omega (arith, pieces_total (λ c. c == 10) file, without_total (pieces (λ c. c == 10) file))
+lines_total file = omega (arith, pieces_total (λ c. c == byte "\n") file, without_total (pieces (λ c. c == byte "\n") file))
 
 -- where each line ends within the limit, so do all together
 ends_total : (limit number start : ℕ) (xs : List Bytes) → start ≤ limit → Each (λ l. end_of l ≤ limit) (placed_from number start xs) → start + total xs ≤ limit

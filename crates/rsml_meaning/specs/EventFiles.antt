@@ -1,5 +1,6 @@
 -- The lines of an event file, when it is well-formed, and its first fault.
 use Rattle.std.specs.Prelude.{◌≡◌, ℕ, suc, ◌+◌, ◌≤◌, Bool, true, false, ◌&&◌, List, [], ◌∷◌, length, Option, Some, None, if◌then◌else◌, ◌==◌, nat_lt, nat_le, is_none, filter_map, take_while}
+use Rattle.std.specs.Str.{byte}
 use Rattle.rsml_syntax.specs.declared.syntax.Spec.{Spec}
 use Rattle.rsml_meaning.specs.Words.{first_some, Each}
 use Rattle.rsml_meaning.specs.EventLines.{Bytes, pieces, is_skipped, LineRule, Message, Outcome, breaks, tells, read_line}
@@ -14,7 +15,7 @@ without_empty_last (line ∷ lines) = line ∷ without_empty_last lines
 
 -- what stands between two LF, before the first, and after the last where that is not empty
 abbrev pub lines : Bytes → List Bytes
-lines file = without_empty_last (pieces (λ c. c == 10) file)
+lines file = without_empty_last (pieces (λ c. c == byte "\n") file)
 
 -- A line of a file: its number, counted from 1, the offset of its first byte, and its bytes without the LF.
 pub record Line : Type 0 where
@@ -38,7 +39,7 @@ end_of line = line.start + length line.bytes + 1
 -- the bytes without one CR at the end
 abbrev pub without_return : Bytes → Bytes
 without_return [] = []
-without_return (c ∷ []) = if c == 13 then [] else c ∷ []
+without_return (c ∷ []) = if c == byte "\r" then [] else c ∷ []
 without_return (c ∷ d ∷ cs) = c ∷ without_return (d ∷ cs)
 
 -- what a line says; nothing where it is skipped

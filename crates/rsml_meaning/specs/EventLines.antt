@@ -1,7 +1,7 @@
 -- What an event line says, and which of the rules E1 to E7 it breaks.
 use Rattle.std.specs.Prelude.{ℕ, ◌+◌, ◌-◌, ◌*◌, Bool, true, false, not, ◌&&◌, ◌||◌, List, [], ◌∷◌, ◌++◌, map, length, take, drop, Option, Some, None, if◌then◌else◌, ℤ, pos, neg_ℤ, ◌==◌, nat_eq, nat_le, fold, filter, zip, option_map, option_and_then, codes}
 use Rattle.std.specs.List.{list_all, starts_with, before_first}
-use Rattle.std.specs.Str.{is_utf8}
+use Rattle.std.specs.Str.{byte, all_ascii_digits, is_utf8}
 use Rattle.rsml_syntax.specs.declared.syntax.Spec.{Spec}
 use Rattle.rsml_syntax.specs.declared.syntax.Amount.{Amount}
 use Rattle.rsml_syntax.specs.declared.syntax.Mention.{Mention}
@@ -30,7 +30,7 @@ pieces parts (c ∷ cs) = if parts c then [] ∷ pieces parts cs else before_pie
 
 -- a space or a tab
 abbrev pub is_blank : ℕ → Bool
-is_blank c = c == 32 || c == 9
+is_blank c = c == byte " " || c == byte "\t"
 
 -- there is no byte
 abbrev pub is_empty : Bytes → Bool
@@ -44,26 +44,22 @@ words line = filter (λ piece. not (is_empty piece)) (pieces is_blank line)
 -- a line that is empty but for spaces and tabs, or whose first other byte is `#`
 abbrev pub is_skipped : Bytes → Bool
 is_skipped [] = true
-is_skipped (c ∷ cs) = if is_blank c then is_skipped cs else c == 35
+is_skipped (c ∷ cs) = if is_blank c then is_skipped cs else c == byte "#"
 
 -- Numbers and values.
 
--- `0` to `9`
-abbrev pub is_digit : ℕ → Bool
-is_digit c = nat_le 48 c && nat_le c 57
-
 -- one or more digits
 abbrev pub is_digits : Bytes → Bool
-is_digits text = not (is_empty text) && list_all is_digit text
+is_digits text = not (is_empty text) && all_ascii_digits text
 
 -- the number that one or more digits write; none for another text
 abbrev pub digits_number : Bytes → Option ℕ
-digits_number text = if is_digits text then Some (fold (λ n c. n * 10 + (c - 48)) 0 text) else None
+digits_number text = if is_digits text then Some (fold (λ n c. n * 10 + (c - byte "0")) 0 text) else None
 
 -- the same with `-` before the digits or not
 abbrev pub signed_number : Bytes → Option ℤ
 signed_number [] = None
-signed_number (c ∷ cs) = if c == 45 then option_map (λ n. neg_ℤ (pos n)) (digits_number cs) else option_map pos (digits_number (c ∷ cs))
+signed_number (c ∷ cs) = if c == byte "-" then option_map (λ n. neg_ℤ (pos n)) (digits_number cs) else option_map pos (digits_number (c ∷ cs))
 
 -- the number of a value, by the form that the type asks for: digits for a range, one of the names for an enumeration
 abbrev pub value_number : InputType × Bytes → Option ℤ
@@ -93,7 +89,7 @@ interface g name = option_and_then interface_by (meaning g name)
 
 -- the first word up to its first `[`, or whole
 abbrev pub name_part : Bytes → Bytes
-name_part word = before_first (λ c. c == 91) word
+name_part word = before_first (λ c. c == byte "[") word
 
 -- the rest of the first word
 abbrev pub index_part : Bytes → Bytes

@@ -27,6 +27,10 @@ the_rules_that_lines_of_the_lamp_break :
 unfolding is_utf8 chars lib.Utf8.encode
 the_rules_that_lines_of_the_lamp_break = refl
 
+words_stand_between_spaces_and_tabs : rule lamp "\t Set \t Lever=Up\t" ≡ None
+unfolding is_utf8 chars lib.Utf8.encode
+words_stand_between_spaces_and_tabs = refl
+
 -- `Set ` and a byte that no character of UTF-8 has
 a_line_that_is_not_utf8 : broken (read_line lamp (0x53 ∷ 0x65 ∷ 0x74 ∷ 0x20 ∷ 0xFF ∷ [])) ≡ Some E1
 unfolding is_utf8 chars lib.Utf8.encode
