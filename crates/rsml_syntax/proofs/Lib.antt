@@ -1,7 +1,9 @@
+mod Lowest
+pub mod BodyLemmas
 pub mod CharacterLemmas
-pub mod WordLemmas
+pub mod Examples
 pub mod FrontLemmas
-pub mod ScanLemmas
 pub mod LayoutLemmas
 pub mod PrintLemmas
-pub mod BodyLemmas
+pub mod ScanLemmas
+pub mod WordLemmas

@@ -12,7 +12,7 @@ use Rattle.rsml_syntax.specs.declared.token.Mark.{Mark}
 use Rattle.rsml_syntax.specs.declared.token.Token.{Token}
 use Rattle.rsml_syntax.specs.declared.token.Token.TheVariants as token
 use Rattle.rsml_syntax.specs.Grammar.{tokens_of}
-use Rattle.rsml_syntax.specs.Kinds.{kind_of, token_like, space_before}
+use Rattle.rsml_syntax.specs.TokenKinds.{kind_of, token_like, space_before}
 use Rattle.rsml_syntax.specs.Layout.{text_of, open_after, space_between, layout_from, layout}
 use Rattle.rsml_syntax.specs.Lexing.{Lexes, bare}
 use Rattle.rsml_syntax.specs.Marks as marks

@@ -3,7 +3,7 @@ use Rattle.std.specs.Prelude.{◌≡◌, ℕ, List, [], ◌∷◌, ◌++◌, Opt
 use Rattle.rsml_syntax.specs.declared.printing.printer.Printer.{Printer}
 use Rattle.rsml_syntax.specs.declared.printing.spacing.Kind.{Kind}
 use Rattle.rsml_syntax.specs.declared.token.Token.{Token}
-use Rattle.rsml_syntax.specs.Kinds.{kind_of, space_before}
+use Rattle.rsml_syntax.specs.TokenKinds.{kind_of, space_before}
 use Rattle.rsml_syntax.specs.Layout.{text_of, open_after}
 use Rattle.rsml_syntax.specs.Tokens.{Tokens}
 

@@ -20,7 +20,7 @@ pub(crate) struct Printer {
 impl Printer {
     ghost use Rattle.std.specs.Prelude.{◌≡◌, ◌+◌, ◌∷◌, ◌++◌, [], Some, None, length, OnOk, IfOk};
     ghost use Rattle.rsml_syntax.specs.Grammar as grammar;
-    ghost use Rattle.rsml_syntax.specs.Kinds.{space_before, token_like};
+    ghost use Rattle.rsml_syntax.specs.TokenKinds.{space_before, token_like};
     ghost use Rattle.rsml_syntax.specs.Printing.{Writes, with_tokens};
 
     pub(crate) fn new(alloc: Global) -> Printer

@@ -1,6 +1,6 @@
 ghost use Rattle.std.specs.Prelude.{◌≡◌, ◌+◌, ◌<◌, ◌≤◌, ◌++◌, vec_len, OnOk};
 ghost use Rattle.rsml_syntax.specs.Layout as layout;
-ghost use Rattle.rsml_syntax.specs.Kinds.{space_before, token_like};
+ghost use Rattle.rsml_syntax.specs.TokenKinds.{space_before, token_like};
 ghost use Rattle.rsml_syntax.specs.declared.token.Token.TheVariants as token;
 
 use crate::no_memory::NoMemory;
