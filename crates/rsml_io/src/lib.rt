@@ -1,0 +1,14 @@
+//! Files that are read and sinks that are written: what they promise, in memory and of the system.
+#![tactic(auto)]
+
+mod failed;
+mod files;
+mod read_error;
+mod sink;
+mod whole;
+
+pub use failed::Failed;
+pub use files::Files;
+pub use read_error::ReadError;
+pub use sink::Sink;
+pub use whole::{read_all, write_all};
