@@ -3,12 +3,15 @@
 
 mod failed;
 mod files;
+mod held;
+mod memory_sink;
 mod read_error;
 mod sink;
 mod whole;
 
 pub use failed::Failed;
 pub use files::Files;
+pub use memory_sink::MemorySink;
 pub use read_error::ReadError;
 pub use sink::Sink;
 pub use whole::{read_all, write_all};

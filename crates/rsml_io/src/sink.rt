@@ -1,5 +1,5 @@
 ghost use Rattle.std.specs.Prelude.{◌≡◌, ◌≢◌, ℕ, ◌≤◌, [], List, Option, length, take, IfOk, OnErr};
-ghost use Rattle.rsml_io.specs.Faults.{Rose};
+ghost use Rattle.rsml_io.specs.Counts.{Rose};
 ghost use Rattle.rsml_io.specs.Writing.{appended};
 
 use crate::failed::Failed;

@@ -1,5 +1,5 @@
 ghost use Rattle.std.specs.Prelude.{◌≡◌, ◌≢◌, ℕ, ◌<◌, ◌≤◌, List, length, IfOk, IfSome, OnOk, OnErr};
-ghost use Rattle.rsml_io.specs.Faults.{Rose};
+ghost use Rattle.rsml_io.specs.Counts.{Rose};
 ghost use Rattle.rsml_io.specs.Reading.{raised};
 ghost use Rattle.rsml_io.specs.Writing.{appended, AppendsProperPrefix};
 ghost use Rattle.rsml_io.specs.declared.read_error.ReadError.TheVariants as error;
