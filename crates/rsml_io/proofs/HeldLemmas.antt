@@ -1,11 +1,11 @@
 -- Files in a list, and changes of one of them.
 use Rattle.std.proofs.Common.{◌≡◌, ◌≢◌, ℕ, ◌+◌, ◌<◌, ◌≤◌, ◌++◌, Bool, true, false, List, [], ◌∷◌, length, get_or, Option, Some, None, refl, ap, sym, ◌∙◌, arith, cond}
 use Rattle.std.proofs.Math.ListN.{set}
-use Rattle.std.specs.Prelude.{position, find}
+use Rattle.std.specs.Prelude.{position, find, option_map}
 use Rattle.std.specs.List.{position_or_len, position_from}
-use Rattle.std.specs.Option.{option_or}
+use Rattle.std.specs.Option.{option_or, option_map_or}
 use Rattle.std.specs.Str.{bytes_eq}
-use Rattle.std.specs.Cmp.Lexicographic.{same_text, bytes_decides}
+use Rattle.std.specs.Cmp.Lexicographic.{same_text, other_text, bytes_decides}
 use Rattle.std.proofs.lemmas.List.Folds.{find_at, find-set, find_past, find-append}
 use Rattle.std.proofs.lemmas.List.Quantifiers.{position-Some}
 use Rattle.std.proofs.lemmas.Iterator.Adapters.{position_from-zero}
@@ -77,3 +77,26 @@ push_changes files name change new none made same = record {
   others = λ q other.
     find-append (named q) files (new ∷ []) ∙ rw (other_bytes new.name q (λ e. other (sym e ∙ same))) (or_none (file_of files q));
 }
+
+-- what a change keeps of each file is the same of every name
+pub field_kept : {A : Type 0} (field : HeldFile → A) (none : A) (change : HeldFile → HeldFile) → ((file : HeldFile) → field (change file) ≡ field file) →
+  (old new : List HeldFile) (name : List ℕ) → ChangesFile (option_map change) old new name →
+  (q : List ℕ) → option_map_or field (file_of new q) none ≡ option_map_or field (file_of old q) none
+field_kept field none change keeps old new name changes q = test (bytes_eq q name) refl
+  where
+    kept : (file : Option HeldFile) → option_map_or field (option_map change file) none ≡ option_map_or field file none
+    kept None = refl
+    kept (Some file) = keeps file
+    test : (b : Bool) → b ≡ bytes_eq q name → option_map_or field (file_of new q) none ≡ option_map_or field (file_of old q) none
+    test true e = rw (same_text q name e) (ap (λ (file : Option HeldFile). option_map_or field file none) changes.here ∙ kept (file_of old name))
+    test false e = ap (λ (file : Option HeldFile). option_map_or field file none) (changes.others q (other_text q name e))
+
+-- a number that a change of one file does not lower falls at no name
+pub field_rises : (field : HeldFile → ℕ) (change : HeldFile → HeldFile) (old new : List HeldFile) (name : List ℕ) (file : HeldFile) →
+  file_of old name ≡ Some file → field file ≤ field (change file) → ChangesFile (option_map change) old new name →
+  (q : List ℕ) (none : ℕ) → option_map_or field (file_of old q) none ≤ option_map_or field (file_of new q) none
+field_rises field change old new name file there rises changes q none = test (bytes_eq q name) refl
+  where
+    test : (b : Bool) → b ≡ bytes_eq q name → option_map_or field (file_of old q) none ≤ option_map_or field (file_of new q) none
+    test true e = rw (same_text q name e, changes.here, there) rises
+    test false e = rw (changes.others q (other_text q name e)) (omega arith)

@@ -1,8 +1,8 @@
 -- Files in memory, as contracts see them.
-use Rattle.std.specs.Prelude.{◌≡◌, ℕ, ◌≤◌, ◌⊎◌, List, [], Option, None, Contains, IsNone, IsSomeAnd, take, drop, min, is_some, if◌then◌else◌}
+use Rattle.std.specs.Prelude.{◌≡◌, ℕ, ◌≤◌, ◌⊎◌, List, [], Contains, IsNone, IsSomeAnd, take, drop, min}
 use Rattle.std.specs.Option.{option_map_or}
 use Rattle.rsml_io.specs.Counts.{counted}
-use Rattle.rsml_io.specs.Held.{file_of, cut_of}
+use Rattle.rsml_io.specs.Held.{file_of, faults_of, cut_of, uncut}
 use Rattle.rsml_io.specs.declared.held.HeldFile.{HeldFile}
 use Rattle.rsml_io.specs.declared.held.Cut.{Cut}
 
@@ -34,7 +34,7 @@ reach state name = option_map_or (λ file. file.reach) (file_of state.files name
 
 -- how many reads of a name were refused; unknown names share a count
 abbrev pub faults : FilesState → List ℕ → ℕ
-faults state name = option_map_or (λ file. file.faults) (file_of state.files name) state.unknown
+faults state name = faults_of state.files state.unknown name
 
 -- the next read, of a file from `at` on, is refused: it is to fail, or the name is unknown, or is cut there or before
 abbrev pub Refuses : FilesState → List ℕ → ℕ → Type 0
@@ -43,6 +43,4 @@ Refuses state name at =
 
 -- what the next read gives, where it is not refused, of a file from `at` on into so much room
 abbrev pub given : FilesState → List ℕ → ℕ → ℕ → List ℕ
-given state name at room =
-    let uncut = option_map_or (λ cut. take cut (contents state name)) (cut_of state.cuts name) (contents state name) in
-    take (min room state.most) (drop at uncut)
+given state name at room = take (min room state.most) (drop at (uncut (contents state name) (cut_of state.cuts name)))

@@ -1,6 +1,6 @@
-ghost use Rattle.std.specs.Prelude.{◌≡◌, ℕ, ◌+◌, ◌<◌, ◌^◌, ◌++◌, List, is_some, position, IfSome, OnOk, OnErr, length, option_map, find, reverse};
+ghost use Rattle.std.specs.Prelude.{◌≡◌, ℕ, ◌+◌, ◌<◌, ◌≤◌, List, max, is_some, position, IfSome, OnOk, OnErr, length, option_map, take, drop};
 ghost use Rattle.std.specs.Option.{option_copied};
-ghost use Rattle.rsml_io.specs.Held.{named, file_of, cut_of, ChangesFile, refused_once, reached, added};
+ghost use Rattle.rsml_io.specs.Held.{named, file_of, faults_of, cut_of, uncut, ChangesFile, refused_once, reached, added};
 
 use rsml_syntax::{NoMemory, Text};
 use std::alloc::Global;
@@ -42,6 +42,29 @@ pub fn cut_of(cuts: &[Cut], name: &str) -> Option<u64>
         .map(|cut| cut.at)
 }
 
+/// The bytes before the cut, if there is one.
+pub fn uncut(bytes: &[u8], cut: Option<u64>) -> &[u8]
+    ensures uncut { result.now ≡ uncut bytes.now cut }
+    ensures within { length result.now ≤ length bytes.now }
+{
+    match cut {
+        Some(cut) if cut < bytes.len() as u64 => &bytes[..cut as usize],
+        _ => bytes,
+    }
+}
+
+/// At most so many bytes from a place on.
+pub fn piece_from(bytes: &[u8], at: u64, most: usize) -> &[u8]
+    ensures piece { result.now ≡ take most (drop at bytes.now) }
+    ensures within { at + length result.now ≤ max at (length bytes.now) }
+{
+    if at >= bytes.len() as u64 {
+        return &[];
+    }
+    let rest = &bytes[at as usize..];
+    &rest[..rest.len().min(most)]
+}
+
 fn place_of(files: &[HeldFile], name: &str) -> Option<usize>
     ensures place { result ≡ position (named name.now) files.now }
     ensures within { IfSome result (λ place. place < length files.now) }
@@ -55,6 +78,7 @@ fn place_of(files: &[HeldFile], name: &str) -> Option<usize>
 pub fn count_fault(files: &mut Vec<HeldFile>, name: &str) -> bool
     ensures known { result ≡ is_some (file_of files.old.items name.now) }
     ensures file { ChangesFile (option_map refused_once) files.old.items files.new.items name.now }
+    ensures count { (file : List ℕ) (unknown : ℕ) → faults_of files.old.items unknown file ≤ faults_of files.new.items unknown file }
 {
     match place_of(files.as_slice(), name) {
         Some(place) => {

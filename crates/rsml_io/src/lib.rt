@@ -4,6 +4,7 @@
 mod failed;
 mod files;
 mod held;
+mod memory_files;
 mod memory_sink;
 mod read_error;
 mod sink;
@@ -11,6 +12,7 @@ mod whole;
 
 pub use failed::Failed;
 pub use files::Files;
+pub use memory_files::MemoryFiles;
 pub use memory_sink::MemorySink;
 pub use read_error::ReadError;
 pub use sink::Sink;
