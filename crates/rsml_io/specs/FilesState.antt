@@ -1,8 +1,8 @@
 -- Files in memory, as contracts see them.
-use Rattle.std.specs.Prelude.{◌≡◌, ℕ, ◌≤◌, ◌⊎◌, List, [], Contains, IsNone, IsSomeAnd, take, drop, min}
+use Rattle.std.specs.Prelude.{◌≡◌, ℕ, ◌≤◌, ◌⊎◌, List, [], Contains, IsNone, IsSomeAnd, take, drop, min, is_some, option_map, if◌then◌else◌}
 use Rattle.std.specs.Option.{option_map_or}
 use Rattle.rsml_io.specs.Counts.{counted}
-use Rattle.rsml_io.specs.Held.{file_of, faults_of, cut_of, uncut}
+use Rattle.rsml_io.specs.Held.{file_of, faults_of, cut_of, uncut, ChangesFile, added, read_once, refused_once}
 use Rattle.rsml_io.specs.declared.held.HeldFile.{HeldFile}
 use Rattle.rsml_io.specs.declared.held.Cut.{Cut}
 
@@ -44,3 +44,19 @@ Refuses state name at =
 -- what the next read gives, where it is not refused, of a file from `at` on into so much room
 abbrev pub given : FilesState → List ℕ → ℕ → ℕ → List ℕ
 given state name at room = take (min room state.most) (drop at (uncut (contents state name) (cut_of state.cuts name)))
+
+-- a file was added, or the one of that name has these bytes now
+pub record AddsFile (old new : FilesState) (name bytes : List ℕ) : Type 0 where
+  pub file : ChangesFile (added name bytes) old.files new.files name
+  pub rest : new ≡ record old { files = new.files }
+
+-- a read of n bytes of a file from `at` on was counted
+pub record CountsRead (old new : FilesState) (name : List ℕ) (at n : ℕ) : Type 0 where
+  pub file : ChangesFile (option_map (read_once at n)) old.files new.files name
+  pub rest : new ≡ record old { files = new.files; calls = counted old.calls }
+
+-- a refused read of a name was counted, with the file or, where there is none, with all unknown names
+pub record CountsRefusal (old new : FilesState) (name : List ℕ) : Type 0 where
+  pub file : ChangesFile (option_map refused_once) old.files new.files name
+  pub others : new.unknown ≡ (if is_some (file_of old.files name) then old.unknown else counted old.unknown)
+  pub rest : new ≡ record old { files = new.files; unknown = new.unknown; calls = counted old.calls }

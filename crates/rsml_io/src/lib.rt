@@ -6,14 +6,19 @@ mod files;
 mod held;
 mod memory_files;
 mod memory_sink;
+mod os;
 mod read_error;
 mod sink;
 mod whole;
+
+#[cfg(test)]
+mod tests;
 
 pub use failed::Failed;
 pub use files::Files;
 pub use memory_files::MemoryFiles;
 pub use memory_sink::MemorySink;
+pub use os::{OsFiles, OsSink};
 pub use read_error::ReadError;
 pub use sink::Sink;
 pub use whole::{read_all, write_all};

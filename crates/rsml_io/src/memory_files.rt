@@ -1,8 +1,7 @@
-ghost use Rattle.std.specs.Prelude.{◌≡◌, ◌≢◌, ℕ, ◌+◌, ◌<◌, ◌≤◌, ◌^◌, ◌↔◌, [], ◌∷◌, ◌++◌, List, Some, length, take, is_some, option_map, if◌then◌else◌, IfOk, IfSome, IsErr, IsNone, OnOk, OnErr};
-ghost use Rattle.rsml_io.specs.Counts.{counted, Rose};
+ghost use Rattle.std.specs.Prelude.{◌≡◌, ◌≢◌, ℕ, ◌+◌, ◌<◌, ◌≤◌, ◌^◌, ◌↔◌, [], ◌∷◌, ◌++◌, List, Some, length, take, IfOk, IfSome, IsErr, IsNone, OnOk, OnErr};
+ghost use Rattle.rsml_io.specs.Counts.{Rose};
 ghost use Rattle.rsml_io.specs.Reading.{GivesPiece, reach_after};
-ghost use Rattle.rsml_io.specs.Held.{ChangesFile, added, refused_once, read_once, file_of};
-ghost use Rattle.rsml_io.specs.FilesState.{no_files, contents, reach, faults, Refuses, given};
+ghost use Rattle.rsml_io.specs.FilesState.{no_files, contents, reach, faults, Refuses, given, AddsFile, CountsRead, CountsRefusal};
 
 use crate::failed::Failed;
 use crate::files::Files;
@@ -53,8 +52,7 @@ impl MemoryFiles {
 
     /// Adds a file. One that is added again has the new bytes, and keeps its reach and its count of refused reads.
     pub fn add(&mut self, name: &str, bytes: &[u8]) -> Result<(), NoMemory>
-        ensures file { OnOk result (ChangesFile (added name.now bytes.now) self.old.files self.new.files name.now) }
-        ensures rest { OnOk result (self.new ≡ record self.old { files = self.new.files }) }
+        ensures ok { OnOk result (AddsFile self.old self.new name.now bytes.now) }
         ensures err { OnErr result (self.new ≡ self.old) }
     {
         put(self.alloc, &mut self.files, name, bytes)
@@ -101,8 +99,7 @@ impl MemoryFiles {
     /// Counts a read that gave n bytes of a file from a place on.
     fn count_read(&mut self, name: &str, at: u64, n: usize)
         requires { at + n < 2 ^ 64 }
-        ensures file { ChangesFile (option_map (read_once at n)) self.old.files self.new.files name.now }
-        ensures rest { self.new ≡ record self.old { files = self.new.files; calls = counted self.old.calls } }
+        ensures { CountsRead self.old self.new name.now at n }
     {
         self.calls = self.calls.saturating_add(1);
         let end = if n == 0 { 0 } else { at + n as u64 };
@@ -111,9 +108,7 @@ impl MemoryFiles {
 
     /// Counts a read that was refused.
     fn count_refusal(&mut self, name: &str)
-        ensures file { ChangesFile (option_map refused_once) self.old.files self.new.files name.now }
-        ensures rest { self.new ≡ record self.old { files = self.new.files; unknown = self.new.unknown; calls = counted self.old.calls } }
-        ensures unknown { self.new.unknown ≡ (if is_some (file_of self.old.files name.now) then self.old.unknown else counted self.old.unknown) }
+        ensures refusal { CountsRefusal self.old self.new name.now }
         ensures count { (file : List ℕ) → faults self.old file ≤ faults self.new file }
     {
         self.calls = self.calls.saturating_add(1);
@@ -144,7 +139,7 @@ impl Files for MemoryFiles {
     fn read(&mut self, name: &str, at: u64, into: &mut [u8]) -> Result<usize, Failed>
         // What every value of files promises.
         ensures bound { IfOk result (λ n. n ≤ length into.old) }
-        ensures piece { IfOk result (λ n. IfSome (Some (contents self.old name.now)) (λ file. GivesPiece file at into.new n)) }
+        ensures piece { IfOk result (λ n. GivesPiece (contents self.old name.now) at into.new n) }
         ensures reached { IfOk result (λ n. Some (reach self.new name.now) ≡ reach_after (Some (reach self.old name.now)) at n) }
         ensures cause { OnErr result (Rose (faults self.old name.now) (faults self.new name.now)) }
         ensures unread { OnErr result (Some (reach self.new name.now) ≡ Some (reach self.old name.now)) }
@@ -155,11 +150,8 @@ impl Files for MemoryFiles {
         // Of this one: when a read is refused, what another gives, and what each leaves.
         ensures refusal { IsErr result ↔ Refuses self.old name.now at }
         ensures given { IfOk result (λ n. take n into.new ≡ given self.old name.now at (length into.old)) }
-        ensures ok { OnOk result (self.new ≡ record self.old { files = self.new.files; calls = counted self.old.calls }) }
-        ensures ok_file { IfOk result (λ n. ChangesFile (option_map (read_once at n)) self.old.files self.new.files name.now) }
-        ensures err { OnErr result (self.new ≡ record self.old { files = self.new.files; unknown = self.new.unknown; calls = counted self.old.calls }) }
-        ensures err_file { OnErr result (ChangesFile (option_map refused_once) self.old.files self.new.files name.now) }
-        ensures err_unknown { OnErr result (self.new.unknown ≡ (if is_some (file_of self.old.files name.now) then self.old.unknown else counted self.old.unknown)) }
+        ensures ok { IfOk result (λ n. CountsRead self.old self.new name.now at n) }
+        ensures err { OnErr result (CountsRefusal self.old self.new name.now) }
     {
         match self.next_read(name, at, into.len()) {
             Some(piece) => {

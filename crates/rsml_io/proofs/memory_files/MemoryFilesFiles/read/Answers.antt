@@ -27,5 +27,5 @@ returns-in-Some-clause-contents c =
 
 pub returns-in-None-clause-contents : goal.returns-in-None-clause-contents
 returns-in-None-clause-contents c =
-    let kept = field_kept (λ file. file.bytes) [] refused_once (λ file. refl) c.args.self.now.files c.count_refusal.new.self.files c.args.name.now c.count_refusal.ensures.file in
+    let kept = field_kept (λ file. file.bytes) [] refused_once (λ file. refl) c.args.self.now.files c.count_refusal.new.self.files c.args.name.now c.count_refusal.ensures.refusal.file in
     λ q. ap Some (kept q)
