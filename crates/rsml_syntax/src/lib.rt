@@ -11,6 +11,9 @@ mod token;
 mod want;
 mod world;
 
+#[cfg(test)]
+mod tests;
+
 pub use edition::Edition;
 pub use laws::refused_is_lowest;
 pub use list::List;
