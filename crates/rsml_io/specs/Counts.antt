@@ -1,4 +1,4 @@
--- Counts, as of refused reads and writes, which stay at the greatest number that a program counts to.
+-- Counts, which stay at the greatest number that a program counts to.
 use Rattle.std.specs.Prelude.{ℕ, ◌+◌, ◌-◌, ◌^◌, ◌≤◌, min}
 
 -- one more

@@ -36,14 +36,17 @@ reach state name = option_map_or (λ file. file.reach) (file_of state.files name
 abbrev pub faults : FilesState → List ℕ → ℕ
 faults state name = faults_of state.files state.unknown name
 
--- the next read, of a file from `at` on, is refused: it is to fail, or the name is unknown, or is cut there or before
+-- the next read, of a file from `at` on, is refused: it is to fail, its name is unknown, or it is cut at or before `at`
 abbrev pub Refuses : FilesState → List ℕ → ℕ → Type 0
 Refuses state name at =
-    Contains state.failing (counted state.calls) ⊎ IsNone (file_of state.files name) ⊎ IsSomeAnd (cut_of state.cuts name) (λ cut. cut ≤ at)
+    Contains state.failing (counted state.calls)
+    ⊎ IsNone (file_of state.files name)
+    ⊎ IsSomeAnd (cut_of state.cuts name) (λ cut. cut ≤ at)
 
 -- what the next read gives, where it is not refused, of a file from `at` on into so much room
 abbrev pub given : FilesState → List ℕ → ℕ → ℕ → List ℕ
-given state name at room = take (min room state.most) (drop at (uncut (contents state name) (cut_of state.cuts name)))
+given state name at room =
+    take (min room state.most) (drop at (uncut (contents state name) (cut_of state.cuts name)))
 
 -- a file was added, or the one of that name has these bytes now
 pub record AddsFile (old new : FilesState) (name bytes : List ℕ) : Type 0 where

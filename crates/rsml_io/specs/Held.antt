@@ -27,7 +27,8 @@ abbrev pub uncut : List ℕ → Option ℕ → List ℕ
 uncut bytes cut = option_map_or (λ cut. take cut bytes) cut bytes
 
 -- what a name stands for changes so, and what every other name stands for stays
-pub record ChangesFile (change : Option HeldFile → Option HeldFile) (old new : List HeldFile) (name : List ℕ) : Type 0 where
+pub record ChangesFile
+    (change : Option HeldFile → Option HeldFile) (old new : List HeldFile) (name : List ℕ) : Type 0 where
   pub here : file_of new name ≡ change (file_of old name)
   pub others : (file : List ℕ) → file ≢ name → file_of new file ≡ file_of old file
 

@@ -1,8 +1,8 @@
 -- What a read gives of a file, and how far it reaches.
 use Rattle.std.specs.Prelude.{◌≡◌, ℕ, ◌+◌, ◌≤◌, ◌⊎◌, ◌↔◌, List, [], length, take, drop, max, Option, option_map, if◌then◌else◌, ◌==◌}
 
--- a read of a file from `at` on put n bytes into the front of `into`: the file's, and none only where `into` is empty
--- or the file ends at or before `at`
+-- a read from `at` on put n bytes of the file into the front of `into`: none exactly where `into` is empty or the file
+-- ends at or before `at`
 pub record GivesPiece (file : List ℕ) (at : ℕ) (into : List ℕ) (n : ℕ) : Type 0 where
   pub same : take n into ≡ take n (drop at file)
   pub inside : at + n ≤ max at (length file)

@@ -20,7 +20,8 @@ empty room = record { bytes = []; room = room; calls = 0; failing = []; faults =
 
 -- the next write, of these bytes, is refused: there are some, and it is to fail or no room is left
 abbrev pub Refuses : SinkState → List ℕ → Type 0
-Refuses sink bytes = (bytes ≢ []) × (Contains sink.failing (counted sink.calls) ⊎ (sink.room ≤ length sink.bytes))
+Refuses sink bytes =
+    (bytes ≢ []) × (Contains sink.failing (counted sink.calls) ⊎ (sink.room ≤ length sink.bytes))
 
 -- how many of so many bytes there is room for
 abbrev pub fitting : SinkState → ℕ → ℕ

@@ -65,6 +65,7 @@ pub fn piece_from(bytes: &[u8], at: u64, most: usize) -> &[u8]
     &rest[..rest.len().min(most)]
 }
 
+/// The place of the first file of that name.
 fn place_of(files: &[HeldFile], name: &str) -> Option<usize>
     ensures place { result ≡ position (named name.now) files.now }
     ensures within { IfSome result (λ place. place < length files.now) }
@@ -77,8 +78,10 @@ fn place_of(files: &[HeldFile], name: &str) -> Option<usize>
 /// Counts a refused read, and says whether there is a file of that name.
 pub fn count_fault(files: &mut Vec<HeldFile>, name: &str) -> bool
     ensures known { result ≡ is_some (file_of files.old.items name.now) }
-    ensures file { ChangesFile (option_map refused_once) files.old.items files.new.items name.now }
-    ensures count { (file : List ℕ) (unknown : ℕ) → faults_of files.old.items unknown file ≤ faults_of files.new.items unknown file }
+    ensures file { ChangesFile (option_map refused_once)
+        files.old.items files.new.items name.now }
+    ensures count { (file : List ℕ) (unknown : ℕ) →
+        faults_of files.old.items unknown file ≤ faults_of files.new.items unknown file }
 {
     match place_of(files.as_slice(), name) {
         Some(place) => {
@@ -107,7 +110,8 @@ pub fn put(
     name: &str,
     bytes: &[u8],
 ) -> Result<(), NoMemory>
-    ensures ok { OnOk result (ChangesFile (added name.now bytes.now) files.old.items files.new.items name.now) }
+    ensures ok { OnOk result
+        (ChangesFile (added name.now bytes.now) files.old.items files.new.items name.now) }
     ensures err { OnErr result (files.new.items ≡ files.old.items) }
 {
     let bytes = Text::new(alloc, bytes)?;

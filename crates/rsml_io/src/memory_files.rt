@@ -28,13 +28,15 @@ impl Model for MemoryFiles {
 
     ghost Value = { FilesState };
 
-    ghost view = { λ f. record { most = f.most; files = f.files.items; unknown = f.unknown; cuts = f.cuts.items; calls = f.calls; failing = f.failing.items } };
+    ghost view = { λ f. record {
+        most = f.most; files = f.files.items; unknown = f.unknown; cuts = f.cuts.items;
+        calls = f.calls; failing = f.failing.items } };
 
     ghost invariant = { λ f. 0 < f.most };
 }
 
 impl MemoryFiles {
-    /// No files. A read is to give at most `most` bytes.
+    /// No files. A read is to give at most `most` bytes. It takes no memory.
     pub fn new(alloc: Global, most: usize) -> MemoryFiles
         requires { 0 < most }
         ensures { result ≡ no_files most }
@@ -50,7 +52,8 @@ impl MemoryFiles {
         }
     }
 
-    /// Adds a file. One that is added again has the new bytes, and keeps its reach and its count of refused reads.
+    /// Adds a file. One that is added again has the new bytes, and keeps its reach and its count of
+    /// refused reads.
     pub fn add(&mut self, name: &str, bytes: &[u8]) -> Result<(), NoMemory>
         ensures ok { OnOk result (AddsFile self.old self.new name.now bytes.now) }
         ensures err { OnErr result (self.new ≡ self.old) }
@@ -60,16 +63,19 @@ impl MemoryFiles {
 
     /// Has one more read refused, the reads being counted from 1.
     pub fn fail_call(&mut self, call: u64) -> Result<(), NoMemory>
-        ensures ok { OnOk result (self.new ≡ record self.old { failing = self.old.failing ++ call ∷ [] }) }
+        ensures ok { OnOk result
+            (self.new ≡ record self.old { failing = self.old.failing ++ call ∷ [] }) }
         ensures err { OnErr result (self.new ≡ self.old) }
     {
         self.failing.push(call)?;
         Ok(())
     }
 
-    /// Has the reads of a file cut at a place, and those from there on refused. The last place for a name counts.
+    /// Has the reads of a file cut at a place, and those from there on refused. The last place for a
+    /// name counts.
     pub fn fail_from(&mut self, name: &str, at: u64) -> Result<(), NoMemory>
-        ensures ok { OnOk result (self.new ≡ record self.old { cuts = self.old.cuts ++ record { name = name.now; at = at } ∷ [] }) }
+        ensures ok { OnOk result (self.new ≡ record self.old {
+            cuts = self.old.cuts ++ record { name = name.now; at = at } ∷ [] }) }
         ensures err { OnErr result (self.new ≡ self.old) }
     {
         let name = Text::new(self.alloc, name.as_bytes())?;
@@ -77,7 +83,8 @@ impl MemoryFiles {
         Ok(())
     }
 
-    /// What the next read gives, of a file from a place on into so much room. None where it is refused.
+    /// What the next read gives, of a file from a place on into so much room. None where it is
+    /// refused.
     fn next_read(&self, name: &str, at: u64, room: usize) -> Option<&[u8]>
         ensures refused { IsNone result ↔ Refuses self.now name.now at }
         ensures given { IfSome result (λ piece. piece.now ≡ given self.now name.now at room) }
@@ -140,12 +147,16 @@ impl Files for MemoryFiles {
         // What every value of files promises.
         ensures bound { IfOk result (λ n. n ≤ length into.old) }
         ensures piece { IfOk result (λ n. GivesPiece (contents self.old name.now) at into.new n) }
-        ensures reached { IfOk result (λ n. Some (reach self.new name.now) ≡ reach_after (Some (reach self.old name.now)) at n) }
+        ensures reached { IfOk result (λ n. Some (reach self.new name.now)
+            ≡ reach_after (Some (reach self.old name.now)) at n) }
         ensures cause { OnErr result (Rose (faults self.old name.now) (faults self.new name.now)) }
-        ensures unread { OnErr result (Some (reach self.new name.now) ≡ Some (reach self.old name.now)) }
-        ensures contents { (file : List ℕ) → Some (contents self.new file) ≡ Some (contents self.old file) }
+        ensures unread { OnErr result
+            (Some (reach self.new name.now) ≡ Some (reach self.old name.now)) }
+        ensures contents { (file : List ℕ) →
+            Some (contents self.new file) ≡ Some (contents self.old file) }
         ensures count { (file : List ℕ) → faults self.old file ≤ faults self.new file }
-        ensures others { (file : List ℕ) → file ≢ name.now → Some (reach self.new file) ≡ Some (reach self.old file) }
+        ensures others { (file : List ℕ) → file ≢ name.now →
+            Some (reach self.new file) ≡ Some (reach self.old file) }
 
         // Of this one: when a read is refused, what another gives, and what each leaves.
         ensures refusal { IsErr result ↔ Refuses self.old name.now at }

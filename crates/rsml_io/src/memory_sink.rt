@@ -25,7 +25,9 @@ impl Model for MemorySink {
 
     ghost Value = { SinkState };
 
-    ghost view = { λ s. record { bytes = s.bytes.items; room = s.room; calls = s.calls; failing = s.failing.items; faults = s.faults } };
+    ghost view = { λ s. record {
+        bytes = s.bytes.items; room = s.room; calls = s.calls;
+        failing = s.failing.items; faults = s.faults } };
 
     ghost invariant = { λ s. (vec_len s.bytes ≤ s.room) × (s.room ≤ vec_capacity s.bytes) };
 }
@@ -46,7 +48,8 @@ impl MemorySink {
 
     /// Has one more write refused, the writes being counted from 1, unless it writes nothing.
     pub fn fail_call(&mut self, call: u64) -> Result<(), NoMemory>
-        ensures ok { OnOk result (self.new ≡ record self.old { failing = self.old.failing ++ call ∷ [] }) }
+        ensures ok { OnOk result
+            (self.new ≡ record self.old { failing = self.old.failing ++ call ∷ [] }) }
         ensures err { OnErr result (self.new ≡ self.old) }
     {
         self.failing.push(call)?;
@@ -70,7 +73,8 @@ impl Sink for MemorySink {
         // What every sink promises.
         ensures bound { IfOk result (λ n. n ≤ length bytes.now) }
         ensures some { IfOk result (λ n. n ≡ 0 → bytes.now ≡ []) }
-        ensures written { IfOk result (λ n. Some self.new.bytes ≡ appended (Some self.old.bytes) (take n bytes.now)) }
+        ensures written { IfOk result (λ n.
+            Some self.new.bytes ≡ appended (Some self.old.bytes) (take n bytes.now)) }
         ensures cause { OnErr result (Rose self.old.faults self.new.faults) }
         ensures unempty { OnErr result (bytes.now ≢ []) }
         ensures unwritten { OnErr result (Some self.new.bytes ≡ Some self.old.bytes) }
@@ -79,8 +83,10 @@ impl Sink for MemorySink {
         // Of this one: when a write is refused, how much another takes, and what each leaves.
         ensures refusal { IsErr result ↔ Refuses self.old bytes.now }
         ensures fitting { IfOk result (λ n. n ≡ fitting self.old (length bytes.now)) }
-        ensures ok { IfOk result (λ n. self.new ≡ record self.old { bytes = self.old.bytes ++ take n bytes.now; calls = counted self.old.calls }) }
-        ensures err { OnErr result (self.new ≡ record self.old { calls = counted self.old.calls; faults = counted self.old.faults }) }
+        ensures ok { IfOk result (λ n. self.new ≡ record self.old {
+            bytes = self.old.bytes ++ take n bytes.now; calls = counted self.old.calls }) }
+        ensures err { OnErr result (self.new ≡ record self.old {
+            calls = counted self.old.calls; faults = counted self.old.faults }) }
     {
         self.calls = self.calls.saturating_add(1);
         if bytes.is_empty() {

@@ -9,7 +9,8 @@ use std::io::{Read, Seek, SeekFrom, Write};
 use std::marker::Model;
 use std::rt;
 
-/// The files of the system. What they hold is not told; contracts see the count of refused reads, which all names share.
+/// The files of the system. What they hold is not told. Contracts see the count of refused reads,
+/// which all names share.
 #[derive(Drop)]
 pub struct OsFiles<'a, R> {
     rt: &'a R,
@@ -58,7 +59,8 @@ impl<R: rt::Files> Files for OsFiles<'_, R> {
     }
 }
 
-/// A writer of the system, as standard output. What was written is not told; contracts see the count of refused writes.
+/// A writer of the system, as standard output. What was written is not told. Contracts see the count
+/// of refused writes.
 #[derive(Drop)]
 pub struct OsSink<W> {
     out: W,

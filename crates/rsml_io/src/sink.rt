@@ -16,7 +16,8 @@ pub trait Sink {
     fn write(&mut self, bytes: &[u8]) -> Result<usize, Failed>
         ensures bound { IfOk result (λ n. n ≤ length bytes.now) }
         ensures some { IfOk result (λ n. n ≡ 0 → bytes.now ≡ []) }
-        ensures written { IfOk result (λ n. written self.new ≡ appended (written self.old) (take n bytes.now)) }
+        ensures written { IfOk result (λ n.
+            written self.new ≡ appended (written self.old) (take n bytes.now)) }
 
         ensures cause { OnErr result (Rose (faults self.old) (faults self.new)) }
         ensures unempty { OnErr result (bytes.now ≢ []) }

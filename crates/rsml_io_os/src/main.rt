@@ -25,7 +25,8 @@ fn copy<F: Files, K: Sink>(
     name: &str,
     sink: &mut K,
 ) -> Result<(), CopyError>
-    ensures { (file : List ℕ) → F.contents files.old name.now ≡ Some file → OnOk result (K.written sink.new ≡ appended (K.written sink.old) file) }
+    ensures { (file : List ℕ) → F.contents files.old name.now ≡ Some file →
+        OnOk result (K.written sink.new ≡ appended (K.written sink.old) file) }
 {
     let bytes = match read_all(alloc, files, name, LIMIT) {
         Ok(bytes) => bytes,
