@@ -10,7 +10,7 @@ use Rattle.std.proofs.lemmas.List.Folds.{find_at, find-set, find_past, find-appe
 use Rattle.std.proofs.lemmas.List.Quantifiers.{position-Some}
 use Rattle.std.proofs.lemmas.Iterator.Adapters.{position_from-zero}
 use Rattle.std.proofs.lemmas.List.Sums.{position_or_len_is}
-use Rattle.std.proofs.lemmas.Option.{slice_get_read, slice_get_past}
+use Rattle.std.proofs.lemmas.Option.{slice_get_read}
 use Rattle.rsml_io.specs.Held.{named, file_of, ChangesFile}
 use Rattle.rsml_io.specs.declared.held.HeldFile.{HeldFile}
 
@@ -45,7 +45,7 @@ module _ (files : List HeldFile) (name : List ℕ) (place : ℕ) (file : HeldFil
   set_changes change new made same = record {
     here = find-set (named name) files place new first_place within (same_bytes new.name name (same ∙ has_name)) ∙ sym made ∙ ap change (sym file_there);
     others = λ q other.
-      find_past (named q) files place new file (ap (named q) (sym here) ∙ other_bytes file.name q (λ e. other (sym e ∙ has_name))) (other_bytes new.name q (λ e. other (sym e ∙ same ∙ has_name)));
+        find_past (named q) files place new file (ap (named q) (sym here) ∙ other_bytes file.name q (λ e. other (sym e ∙ has_name))) (other_bytes new.name q (λ e. other (sym e ∙ same ∙ has_name)));
   }
 
 none_from : (p : HeldFile → Bool) (i : ℕ) (files : List HeldFile) → position_from p i files ≡ None → find p files ≡ None
@@ -71,30 +71,31 @@ or_none (Some file) = refl
 
 -- a file put at the end where there is none of its name
 pub push_changes : (files : List HeldFile) (name : List ℕ) (change : Option HeldFile → Option HeldFile) (new : HeldFile) →
-  None ≡ position (named name) files → change None ≡ Some new → new.name ≡ name → ChangesFile change files (files ++ new ∷ []) name
+    None ≡ position (named name) files → change None ≡ Some new → new.name ≡ name → ChangesFile change files (files ++ new ∷ []) name
 push_changes files name change new none made same = record {
   here = find-append (named name) files (new ∷ []) ∙ rw (no_file files name none, same_bytes new.name name same) (sym made);
   others = λ q other.
-    find-append (named q) files (new ∷ []) ∙ rw (other_bytes new.name q (λ e. other (sym e ∙ same))) (or_none (file_of files q));
+      find-append (named q) files (new ∷ []) ∙ rw (other_bytes new.name q (λ e. other (sym e ∙ same))) (or_none (file_of files q));
 }
 
 -- what a change keeps of each file is the same of every name
 pub field_kept : {A : Type 0} (field : HeldFile → A) (none : A) (change : HeldFile → HeldFile) → ((file : HeldFile) → field (change file) ≡ field file) →
-  (old new : List HeldFile) (name : List ℕ) → ChangesFile (option_map change) old new name →
-  (q : List ℕ) → option_map_or field (file_of new q) none ≡ option_map_or field (file_of old q) none
+    (old new : List HeldFile) (name : List ℕ) → ChangesFile (option_map change) old new name →
+    (q : List ℕ) → option_map_or field (file_of new q) none ≡ option_map_or field (file_of old q) none
 field_kept field none change keeps old new name changes q = test (bytes_eq q name) refl
   where
     kept : (file : Option HeldFile) → option_map_or field (option_map change file) none ≡ option_map_or field file none
     kept None = refl
     kept (Some file) = keeps file
+
     test : (b : Bool) → b ≡ bytes_eq q name → option_map_or field (file_of new q) none ≡ option_map_or field (file_of old q) none
     test true e = rw (same_text q name e) (ap (λ (file : Option HeldFile). option_map_or field file none) changes.here ∙ kept (file_of old name))
     test false e = ap (λ (file : Option HeldFile). option_map_or field file none) (changes.others q (other_text q name e))
 
 -- a number that a change of one file does not lower falls at no name
 pub field_rises : (field : HeldFile → ℕ) (change : HeldFile → HeldFile) (old new : List HeldFile) (name : List ℕ) (file : HeldFile) →
-  file_of old name ≡ Some file → field file ≤ field (change file) → ChangesFile (option_map change) old new name →
-  (q : List ℕ) (none : ℕ) → option_map_or field (file_of old q) none ≤ option_map_or field (file_of new q) none
+    file_of old name ≡ Some file → field file ≤ field (change file) → ChangesFile (option_map change) old new name →
+    (q : List ℕ) (none : ℕ) → option_map_or field (file_of old q) none ≤ option_map_or field (file_of new q) none
 field_rises field change old new name file there rises changes q none = test (bytes_eq q name) refl
   where
     test : (b : Bool) → b ≡ bytes_eq q name → option_map_or field (file_of old q) none ≤ option_map_or field (file_of new q) none

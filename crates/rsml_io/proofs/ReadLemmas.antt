@@ -1,6 +1,6 @@
 -- What a read of a file in memory gives.
 use Rattle.std.proofs.Common.{◌≡◌, ℕ, ◌+◌, ◌-◌, ◌≤◌, ◌<◌, List, [], ◌∷◌, length, take, drop, Option, Some, None, refl, ap, sym, ◌∙◌, arith, inl, inr, length-take, length-drop}
-use Rattle.std.specs.Prelude.{min, max, IsSomeAnd, ◌⊎◌}
+use Rattle.std.specs.Prelude.{min, IsSomeAnd, ◌⊎◌}
 use Rattle.std.proofs.Math.Seq.{take-length}
 use Rattle.std.proofs.lemmas.List.{take-take, drop-take, take_min}
 use Rattle.rsml_io.specs.Held.{uncut}
@@ -21,20 +21,21 @@ module _ (file into : List ℕ) (at most : ℕ) (some : 0 < most) where
       let piece = take (min (length into) most) (take (end - at) rest) in
       let len : n ≡ length piece = omega (arith, length-take n into, ap length given) in
       let all : length piece ≡ min (min (length into) most) (min (end - at) (length rest)) =
-        length-take (min (length into) most) (take (end - at) rest) ∙ ap (λ k. min (min (length into) most) k) (length-take (end - at) rest) in
+      length-take (min (length into) most) (take (end - at) rest) ∙ ap (λ k. min (min (length into) most) k) (length-take (end - at) rest) in
       let left : length rest ≡ length file - at = length-drop at file in
       record {
         same =
-          given ∙ sym (take-length piece) ∙ ap (λ k. take k piece) (sym len)
-          ∙ take-take n (min (length into) most) (take (end - at) rest) (omega arith) ∙ take-take n (end - at) rest (omega arith);
+            given ∙ sym (take-length piece) ∙ ap (λ k. take k piece) (sym len)
+            ∙ take-take n (min (length into) most) (take (end - at) rest) (omega arith) ∙ take-take n (end - at) rest (omega arith);
         inside = omega arith;
         none = (
           λ none. elim (empty_or_not into) [ inl empty ↦ inl empty | inr full ↦ inr (omega arith) ],
-          λ cause. elim cause [ inl empty ↦ (let nothing : length into ≡ 0 = ap length empty in omega arith) | inr ends ↦ omega arith ]);
+          λ cause. elim cause [ inl empty ↦ (let nothing : length into ≡ 0 = ap length empty in omega arith) | inr ends ↦ omega arith ],
+        );
       }
 
   pub piece_given : (cut : Option ℕ) (n : ℕ) → (IsSomeAnd cut (λ cut. cut ≤ at) → ⊥) → n ≤ length into →
-    take n into ≡ take (min (length into) most) (drop at (uncut file cut)) → GivesPiece file at into n
+      take n into ≡ take (min (length into) most) (drop at (uncut file cut)) → GivesPiece file at into n
   piece_given None n free room given =
       let rest = drop at file in
       let end = at + (length rest + 1) in
@@ -44,4 +45,4 @@ module _ (file into : List ℕ) (at most : ℕ) (some : 0 < most) where
       let before : at < cut = omega arith in
       let apart : cut ≡ at + (cut - at) = omega arith in
       piece_before n cut before room
-        (given ∙ ap (λ k. take (min (length into) most) (drop at (take k file))) apart ∙ ap (take (min (length into) most)) (drop-take at (cut - at) file))
+      (given ∙ ap (λ k. take (min (length into) most) (drop at (take k file))) apart ∙ ap (take (min (length into) most)) (drop-take at (cut - at) file))

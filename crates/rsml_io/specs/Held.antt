@@ -1,5 +1,5 @@
 -- Files that are held in memory.
-use Rattle.std.specs.Prelude.{◌≡◌, ◌≢◌, ℕ, max, Bool, List, Option, None, Some, find, reverse, option_map, take, drop, ◌+◌, ◌==◌, if◌then◌else◌}
+use Rattle.std.specs.Prelude.{◌≡◌, ◌≢◌, ℕ, max, Bool, List, Option, None, Some, find, reverse, option_map, take, ◌+◌, ◌==◌, if◌then◌else◌}
 use Rattle.std.specs.Option.{option_map_or}
 use Rattle.std.specs.Str.{bytes_eq}
 use Rattle.rsml_io.specs.Counts.{counted}

@@ -1,5 +1,5 @@
 -- A sink in memory, as contracts see it.
-use Rattle.std.specs.Prelude.{◌≡◌, ◌≢◌, ℕ, ◌-◌, ◌≤◌, ◌⊎◌, List, [], Contains, length, min}
+use Rattle.std.specs.Prelude.{◌≢◌, ℕ, ◌-◌, ◌≤◌, ◌⊎◌, List, [], Contains, length, min}
 use Rattle.rsml_io.specs.Counts.{counted}
 
 pub record SinkState : Type 0 where

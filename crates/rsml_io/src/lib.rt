@@ -11,9 +11,6 @@ mod read_error;
 mod sink;
 mod whole;
 
-#[cfg(test)]
-mod tests;
-
 pub use failed::Failed;
 pub use files::Files;
 pub use memory_files::MemoryFiles;
@@ -22,3 +19,6 @@ pub use os::{OsFiles, OsSink};
 pub use read_error::ReadError;
 pub use sink::Sink;
 pub use whole::{read_all, write_all};
+
+#[cfg(test)]
+mod tests;

@@ -5,7 +5,9 @@ ghost use Rattle.rsml_io.specs.FilesState.{no_files, contents, reach, faults, Re
 
 use crate::failed::Failed;
 use crate::files::Files;
-use crate::held::{Cut, HeldFile, count_fault, count_reach, cut_of, file_of, piece_from, put, uncut};
+use crate::held::{
+    Cut, HeldFile, count_fault, count_reach, cut_of, file_of, piece_from, put, uncut,
+};
 use rsml_syntax::{NoMemory, Text};
 use std::alloc::Global;
 use std::marker::Model;
@@ -29,8 +31,13 @@ impl Model for MemoryFiles {
     ghost Value = { FilesState };
 
     ghost view = { λ f. record {
-        most = f.most; files = f.files.items; unknown = f.unknown; cuts = f.cuts.items;
-        calls = f.calls; failing = f.failing.items } };
+      most = f.most;
+      files = f.files.items;
+      unknown = f.unknown;
+      cuts = f.cuts.items;
+      calls = f.calls;
+      failing = f.failing.items;
+    } };
 
     ghost invariant = { λ f. 0 < f.most };
 }
@@ -75,7 +82,8 @@ impl MemoryFiles {
     /// name counts.
     pub fn fail_from(&mut self, name: &str, at: u64) -> Result<(), NoMemory>
         ensures ok { OnOk result (self.new ≡ record self.old {
-            cuts = self.old.cuts ++ record { name = name.now; at = at } ∷ [] }) }
+          cuts = self.old.cuts ++ record { name = name.now; at = at } ∷ [];
+        }) }
         ensures err { OnErr result (self.new ≡ self.old) }
     {
         let name = Text::new(self.alloc, name.as_bytes())?;

@@ -26,8 +26,12 @@ impl Model for MemorySink {
     ghost Value = { SinkState };
 
     ghost view = { λ s. record {
-        bytes = s.bytes.items; room = s.room; calls = s.calls;
-        failing = s.failing.items; faults = s.faults } };
+      bytes = s.bytes.items;
+      room = s.room;
+      calls = s.calls;
+      failing = s.failing.items;
+      faults = s.faults;
+    } };
 
     ghost invariant = { λ s. (vec_len s.bytes ≤ s.room) × (s.room ≤ vec_capacity s.bytes) };
 }
@@ -84,9 +88,13 @@ impl Sink for MemorySink {
         ensures refusal { IsErr result ↔ Refuses self.old bytes.now }
         ensures fitting { IfOk result (λ n. n ≡ fitting self.old (length bytes.now)) }
         ensures ok { IfOk result (λ n. self.new ≡ record self.old {
-            bytes = self.old.bytes ++ take n bytes.now; calls = counted self.old.calls }) }
+          bytes = self.old.bytes ++ take n bytes.now;
+          calls = counted self.old.calls;
+        }) }
         ensures err { OnErr result (self.new ≡ record self.old {
-            calls = counted self.old.calls; faults = counted self.old.faults }) }
+          calls = counted self.old.calls;
+          faults = counted self.old.faults;
+        }) }
     {
         self.calls = self.calls.saturating_add(1);
         if bytes.is_empty() {

@@ -3,11 +3,9 @@ ghost use Rattle.std.specs.Prelude.{◌≡◌, None, IfOk, ◌≤◌, length};
 use crate::failed::Failed;
 use crate::files::Files;
 use crate::sink::Sink;
-use std::fs;
-use std::io;
 use std::io::{Read, Seek, SeekFrom, Write};
 use std::marker::Model;
-use std::rt;
+use std::{fs, io, rt};
 
 /// The files of the system. What they hold is not told. Contracts see the count of refused reads,
 /// which all names share.

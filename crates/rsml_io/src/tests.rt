@@ -1,4 +1,6 @@
-use crate::{Failed, Files, MemoryFiles, MemorySink, OsFiles, OsSink, ReadError, Sink, read_all, write_all};
+use crate::{
+    Failed, Files, MemoryFiles, MemorySink, OsFiles, OsSink, ReadError, Sink, read_all, write_all,
+};
 use std::io::{self, Write};
 use std::test::Fail;
 
@@ -53,9 +55,17 @@ fn refuses_writes(rt: HostRuntime) -> Result<(), Fail> {
     let mut sink = MemorySink::new(rt.alloc(), 5)?;
     assert_eq!(rt; sink.fail_call(2), Ok(()));
     assert_eq!(rt; write_all(&mut sink, b"ab"), Ok(()));
-    assert_eq!(rt; write_all(&mut sink, b"cd"), Err(Failed), "the second write");
+    assert_eq!(rt;
+        write_all(&mut sink, b"cd"),
+        Err(Failed),
+        "the second write"
+    );
     assert_eq!(rt; sink.bytes(), b"ab".as_slice());
-    assert_eq!(rt; write_all(&mut sink, b"cdef"), Err(Failed), "no room for one byte");
+    assert_eq!(rt;
+        write_all(&mut sink, b"cdef"),
+        Err(Failed),
+        "no room for one byte"
+    );
     assert_eq!(rt; sink.bytes(), b"abcde".as_slice());
     assert_eq!(rt; sink.write(b""), Ok(0));
     Ok(())

@@ -11,9 +11,6 @@ mod token;
 mod want;
 mod world;
 
-#[cfg(test)]
-mod tests;
-
 pub use edition::Edition;
 pub use laws::refused_is_lowest;
 pub use list::List;
@@ -26,3 +23,6 @@ pub use text::Text;
 pub use token::{MARKS, Mark, Placed, Token, WORDS, Word};
 pub use want::Want;
 pub use world::{Path, Step, World};
+
+#[cfg(test)]
+mod tests;

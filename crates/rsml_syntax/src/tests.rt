@@ -21,6 +21,9 @@ fn compares_texts_by_their_bytes(rt: HostRuntime) -> Result<(), Fail> {
     let lamp = Text::new(rt.alloc(), b"Lamp")?;
     assert_eq!(rt; lamp.bytes(), b"Lamp".as_slice());
     assert_eq!(rt; Text::new(rt.alloc(), b"Lamp"), Ok::<Text, NoMemory>(lamp));
-    assert_ne!(rt; Text::new(rt.alloc(), b"Lamp"), Text::new(rt.alloc(), b"Lamps"));
+    assert_ne!(rt;
+        Text::new(rt.alloc(), b"Lamp"),
+        Text::new(rt.alloc(), b"Lamps")
+    );
     Ok(())
 }

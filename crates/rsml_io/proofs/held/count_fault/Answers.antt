@@ -1,4 +1,4 @@
-use Rattle.std.proofs.Common.{◌≡◌, Option, Some, ap, sym, refl, arith}
+use Rattle.std.proofs.Common.{◌≡◌, Some, ap, sym, refl, arith}
 use Rattle.std.specs.Prelude.{is_some, option_map, position}
 use Rattle.rsml_io.specs.Held.{named, refused_once}
 use Rattle.rsml_io.proofs.HeldLemmas.{file_there, set_changes, no_file, none_changes, field_rises}
@@ -13,7 +13,7 @@ pub returns-in-Some-clause-file : goal.returns-in-Some-clause-file
 returns-in-Some-clause-file c =
     let first : Some c.in-Some.place ≡ position (named c.args.name.now) c.args.files.now.items = rw c.as_slice.ensures.value at c.in-Some.ensures.place in
     set_changes c.args.files.now.items c.args.name.now c.in-Some.place c.index_mut-file.result.now first c.index_mut-file.ensures.value
-      (option_map refused_once) _ (cc) refl
+    (option_map refused_once) _ (cc) refl
 
 pub returns-in-Some-clause-count : goal.returns-in-Some-clause-count
 returns-in-Some-clause-count c =

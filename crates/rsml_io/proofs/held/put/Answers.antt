@@ -1,7 +1,6 @@
-use Rattle.std.proofs.Common.{◌≡◌, ℕ, List, Option, Some, None, refl, ◌∙◌}
-use Rattle.std.specs.Prelude.{option_map, position}
+use Rattle.std.proofs.Common.{◌≡◌, ℕ, List, Some, None, refl, ◌∙◌}
+use Rattle.std.specs.Prelude.{position}
 use Rattle.rsml_io.specs.Held.{named, added}
-use Rattle.rsml_io.specs.declared.held.HeldFile.{HeldFile}
 use Rattle.rsml_io.proofs.HeldLemmas.{set_changes, push_changes}
 use Rattle.rsml_io.proofs.held.put.Goals as goal
 
@@ -13,7 +12,7 @@ returns-in-Some-clause-ok c =
     let first : Some c.in-Some.place ≡ position (named name) c.args.files.now.items = rw c.as_slice.ensures.value at c.in-Some.ensures.place in
     let made : (b : List ℕ) → b ≡ bytes → added name bytes (Some file) ≡ Some (record file { bytes = b }) = λ b e. rw e refl in
     set_changes c.args.files.now.items name c.in-Some.place file first c.index_mut-file.ensures.value
-      (added name bytes) _ (made _ c.in_ok-bytes.ensures) refl
+    (added name bytes) _ (made _ c.in_ok-bytes.ensures) refl
 
 pub returns-in_ok-push-in-None-clause-ok : goal.returns-in_ok-push-in-None-clause-ok
 returns-in_ok-push-in-None-clause-ok c =

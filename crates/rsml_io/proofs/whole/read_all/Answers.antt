@@ -1,6 +1,4 @@
-use Rattle.std.proofs.Common.{◌≡◌, ℕ, List, Option, sym, ◌∙◌, ap, arith, length, ◌≤◌, length-append, length-take, take, ◌++◌, ◌+◌, subst}
-use Rattle.std.specs.Prelude.{IfSome}
-use Rattle.rsml_io.specs.Reading.{GivesPiece, raised}
+use Rattle.std.proofs.Common.{◌≡◌, ◌∙◌, arith, length, ◌≤◌, length-append, length-take, take, ◌++◌, ◌+◌}
 use Rattle.rsml_io.proofs.Pieces.{longer_front, raised_twice}
 use Rattle.rsml_io.proofs.whole.read_all.Goals as goal
 

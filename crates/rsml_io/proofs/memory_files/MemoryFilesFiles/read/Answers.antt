@@ -1,4 +1,4 @@
-use Rattle.std.proofs.Common.{◌≡◌, ◌≤◌, List, ℕ, Some, ap, arith, inr, length, take, drop, length-take, ◌∙◌, [], refl}
+use Rattle.std.proofs.Common.{◌≡◌, Some, ap, arith, inr, length, drop, length-take, ◌∙◌, [], refl}
 use Rattle.std.specs.Prelude.{min}
 use Rattle.rsml_io.specs.Held.{cut_of, uncut, read_once, refused_once}
 use Rattle.rsml_io.specs.FilesState.{contents}
@@ -16,9 +16,9 @@ returns-in-Some-clause-piece c =
     let given = rw (← same) at c.in-Some.ensures.given in
     let short = length-take (min (length into) state.most) (drop c.args.at (uncut (contents state name) cut)) in
     piece_given (contents state name) into c.args.at state.most c.next_read.ensures.most cut c.copy_to_front-n.result
-      (λ cuts. let none = c.in-Some.ensures.refused.1 (inr (inr cuts)) in cc)
-      (omega (arith, short, ap length given, c.copy_to_front-n.ensures.n))
-      (c.copy_to_front-n.ensures.front ∙ given)
+    (λ cuts. let none = c.in-Some.ensures.refused.1 (inr (inr cuts)) in cc)
+    (omega (arith, short, ap length given, c.copy_to_front-n.ensures.n))
+    (c.copy_to_front-n.ensures.front ∙ given)
 
 pub returns-in-Some-clause-contents : goal.returns-in-Some-clause-contents
 returns-in-Some-clause-contents c =
