@@ -25,3 +25,6 @@ pub use text::Text;
 pub use token::{MARKS, Mark, Placed, Token, WORDS, Word};
 pub use want::Want;
 pub use world::{Path, Step, World};
+
+#[cfg(test)]
+mod tests;
