@@ -1,0 +1,5 @@
+pub mod Bits
+pub mod Columns
+pub mod LanesLemmas
+pub mod Spelling
+pub mod CountsLemmas

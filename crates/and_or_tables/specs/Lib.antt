@@ -1,0 +1,4 @@
+pub mod Asked
+pub mod Ground
+pub mod Masks
+pub mod Shape
