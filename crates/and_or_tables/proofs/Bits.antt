@@ -12,7 +12,7 @@ use Rattle.rsml_syntax.specs.declared.syntax.Cell.{Cell}
 use Rattle.rsml_syntax.specs.declared.syntax.Cell.TheVariants as cells
 use Rattle.rsml_syntax.specs.Tables.{TableRow, allows, column, width, below, table_truth}
 use Rattle.and_or_tables.specs.Asked.{bit, asked}
-use Rattle.and_or_tables.specs.Masks.{cares, wants, care_word, want_word}
+use Rattle.and_or_tables.specs.Cells.{cares, wants, care_word, want_word}
 
 -- the bits of a word, from the lowest on, are as the cells of a column want them
 abbrev pub fits : ℕ → List Cell → Bool

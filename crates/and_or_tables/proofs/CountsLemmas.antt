@@ -2,13 +2,13 @@
 use Rattle.std.proofs.Common.{◌≡◌, ℕ, ◌+◌, ◌-◌, ◌*◌, ◌%◌, ◌^◌, ◌<◌, ◌≤◌, suc, zero, Bool, true, false, not, ◌||◌, cond, eqb, List, [], ◌∷◌, ◌++◌, length, get_or, map, take, drop, replicate, refl, ap, sym, ◌∙◌, arith, w64}
 use Rattle.std.specs.List.{count_by}
 use Rattle.std.specs.Simd.Lanes.{Each1, Each2, chunk, put_chunk, sel_l, sum_l, top, zip2}
-use Rattle.std.proofs.lemmas.List.{length-map, length-take}
+use Rattle.std.proofs.lemmas.List.{length-map, take_rest, take-append-drop}
 use Rattle.std.proofs.lemmas.List.Sums.{count_by-le-length, sum_by-cons, sum_by-append}
 use Rattle.std.proofs.Math.Seq.{take-add}
 use Rattle.std.proofs.lemmas.Simd.{sum_fits, fold-sum, tops_compared, zip2_splat, map-map, length-zip2, sum-zip2, adds_fit, Each2-of, Each1-from_get_or, get_or-chunk, length-chunk, get_or-zip2, get_or-put_chunk_at}
 use mir.Val.{Fits, bits, hbits}
 use lib.Bits.{bit_and}
-use Rattle.and_or_tables.specs.Masks.{holds}
+use Rattle.and_or_tables.specs.Cells.{holds}
 use Rattle.and_or_tables.proofs.LanesLemmas.{lanes_compared}
 
 -- 1 in each lane that is true
@@ -159,3 +159,26 @@ length_counted word care want counts sums at n in_care in_want in_counts are =
     let n_long = length-chunk at n counts in_counts in
     let h_long : length (zip2 test (chunk at n care) (chunk at n want)) ≡ n = length-zip2 test (chunk at n care) (chunk at n want) (c_long ∙ sym w_long) ∙ c_long in
     ap length are ∙ length-zip2 add (chunk at n counts) (zip2 test (chunk at n care) (chunk at n want)) (n_long ∙ sym h_long) ∙ n_long
+
+-- ---- blocks of words
+
+-- the words up to a place, and a block from there on
+pub block_more : (p : ℕ → Bool) (words : List ℕ) (at n before after first : ℕ) → before ≡ first + count_by p (take at words)
+    → after ≡ before + count_by p (take (at + n - at) (drop at words))
+    → after ≡ first + count_by p (take (at + n) words)
+block_more p words at n before after first counted more =
+    let size : at + n - at ≡ n = omega arith in
+    let joined : count_by p (take (at + n) words) ≡ count_by p (take at words) + count_by p (take n (drop at words)) =
+      ap (count_by p) (take-add at n words) ∙ sum_by-append (λ w. cond (p w) 1 0) (take at words) (take n (drop at words)) in
+    let here : count_by p (take (at + n - at) (drop at words)) ≡ count_by p (take n (drop at words)) = ap (λ k. count_by p (take k (drop at words))) size in
+    omega (arith, joined, here, counted, more)
+
+-- the words up to a place, and all the others
+pub block_last : (p : ℕ → Bool) (words : List ℕ) (at before after first : ℕ) → before ≡ first + count_by p (take at words)
+    → after ≡ before + count_by p (take (length words - at) (drop at words))
+    → after ≡ first + count_by p words
+block_last p words at before after first counted more =
+    let rest : count_by p (take (length words - at) (drop at words)) ≡ count_by p (drop at words) = ap (count_by p) (take_rest words at) in
+    let joined : count_by p words ≡ count_by p (take at words) + count_by p (drop at words) =
+      ap (count_by p) (sym (take-append-drop at words)) ∙ sum_by-append (λ w. cond (p w) 1 0) (take at words) (drop at words) in
+    omega (arith, joined, rest, counted, more)

@@ -11,7 +11,7 @@ use Rattle.std.proofs.lemmas.Bool.Decides.{nat_tests}
 use mir.Val.{bits, hbits}
 use lib.Bits.{bit_and}
 use Rattle.rsml_syntax.specs.Tables.{below}
-use Rattle.and_or_tables.specs.Masks.{holds}
+use Rattle.and_or_tables.specs.Cells.{holds}
 use Rattle.and_or_tables.proofs.Columns.{some_below}
 
 -- a mask is not 0 where one of its bits is set

@@ -1,5 +1,7 @@
 pub mod Bits
 pub mod Columns
-pub mod LanesLemmas
-pub mod Spelling
 pub mod CountsLemmas
+pub mod FastLemmas
+pub mod LanesLemmas
+pub mod Masked
+pub mod Spelling

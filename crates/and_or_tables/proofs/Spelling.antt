@@ -10,7 +10,7 @@ use Rattle.rsml_syntax.specs.declared.syntax.Cell.{Cell}
 use Rattle.rsml_syntax.specs.declared.syntax.Cell.TheVariants as cells
 use Rattle.rsml_syntax.specs.Tables.{column, width, below, table_truth}
 use Rattle.and_or_tables.specs.Asked.{bit, asked}
-use Rattle.and_or_tables.specs.Masks.{cares, wants, care_word, want_word, holds, spelled_cell, spelled_row, spelled}
+use Rattle.and_or_tables.specs.Cells.{cares, wants, care_word, want_word, holds, spelled_cell, spelled_row, spelled}
 use Rattle.and_or_tables.proofs.Bits.{below-suc, asked-cons, words-column}
 
 pub length-below : (n : ℕ) → length (below n) ≡ n

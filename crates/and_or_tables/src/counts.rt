@@ -1,7 +1,7 @@
 //! Kernels that count how often the columns of a table are true, several lanes at a time.
 ghost use Rattle.std.specs.Prelude.{◌≡◌, ℕ, ◌+◌, ◌^◌, ◌<◌, ◌≤◌, ◌==◌, if◌then◌else◌, bit_and, count_by, length, slice_index, take};
 ghost use Rattle.std.specs.Simd.Lanes.{Each1, sum_l, zip2};
-ghost use Rattle.and_or_tables.specs.Masks.{holds};
+ghost use Rattle.and_or_tables.specs.Cells.{holds};
 
 use std::simd::prelude::*;
 
@@ -67,8 +67,41 @@ fn counted_lanes(bits: u64, care: u64x4, want: u64x4, counts: u64x4) -> u64x4
     counts.strict_add(hits.select(u64x4::splat(1), u64x4::splat(0)))
 }
 
+/// How many words are counted for all columns before the next ones are read: they stay in the processor's
+/// nearest memory meanwhile.
+const BLOCK: usize = 1024;
+
+/// Adds to the count of each column the number of words that it is true for.
+pub fn count_all_holds(care: &[u64], want: &[u64], words: &[u64], counts: &mut [u64])
+    requires same { length care.now ≡ length want.now }
+    requires counts { length counts.old ≡ length care.now }
+    requires room { (k : ℕ) → k < length care.now → slice_index counts.old k + length words.now ≤ u64.MAX }
+    ensures { (k : ℕ) → k < length care.now → slice_index counts.new k
+        ≡ slice_index counts.old k + count_by (λ word. holds word care.now want.now k) words.now }
+{
+    let mut at = 0;
+    while words.len() - at > BLOCK {
+        count_block(care, want, &words[at..at + BLOCK], counts);
+        at += BLOCK;
+    }
+    count_block(care, want, &words[at..], counts);
+}
+
+/// The same, column by column.
+fn count_block(care: &[u64], want: &[u64], words: &[u64], counts: &mut [u64])
+    requires same { length care.now ≡ length want.now }
+    requires counts { length counts.old ≡ length care.now }
+    requires room { (k : ℕ) → k < length care.now → slice_index counts.old k + length words.now ≤ u64.MAX }
+    ensures { (k : ℕ) → k < length care.now → slice_index counts.new k
+        ≡ slice_index counts.old k + count_by (λ word. holds word care.now want.now k) words.now }
+{
+    for place in 0..care.len() {
+        counts[place] += count_words(words, care[place], want[place]);
+    }
+}
+
 /// How many of the words the column of these masks is true for.
-pub fn count_words(words: &[u64], care: u64, want: u64) -> u64
+fn count_words(words: &[u64], care: u64, want: u64) -> u64
     ensures { result ≡ count_by (λ word. bit_and word care == want) words.now }
 {
     let mut sums = u64x4::splat(0);

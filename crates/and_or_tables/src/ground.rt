@@ -64,7 +64,15 @@ fn row_is_allowed(row: &GroundRow, truths: &Truths, place: usize) -> bool
     requires phrase { row.now.phrase < length truths.now }
     ensures { result ≡ allows (slice_index_or row.now.cells place Cell.Dot) (known truths.now row.now.phrase) }
 {
-    is_allowed(row.cells.as_slice()[place], truths.get(row.phrase))
+    is_allowed(cell_at(row, place), truths.get(row.phrase))
+}
+
+/// The row's cell in a column.
+pub fn cell_at(row: &GroundRow, place: usize) -> Cell
+    requires { place < length row.now.cells }
+    ensures { result ≡ slice_index_or row.now.cells place Cell.Dot }
+{
+    row.cells.as_slice()[place]
 }
 
 /// Whether a phrase of this truth is as the cell wants it.

@@ -2,11 +2,13 @@
 #![tactic(auto)]
 
 mod counts;
+mod fast;
 mod ground;
 mod lanes;
 mod masks;
 mod truths;
 
+pub use fast::FastTable;
 pub use ground::{GroundRow, GroundTable};
 pub use masks::MaskTable;
 pub use truths::Truths;

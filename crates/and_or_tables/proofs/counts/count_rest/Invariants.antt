@@ -1,5 +1,5 @@
 use Rattle.std.proofs.Common.{◌≡◌, ℕ, ◌+◌, ◌<◌, ◌≤◌, cond, get_or}
-use Rattle.and_or_tables.specs.Masks.{holds}
+use Rattle.and_or_tables.specs.Cells.{holds}
 use Rattle.and_or_tables.proofs.counts.count_rest.Given as goal
 
 -- the columns so far are counted, and the others are as they were

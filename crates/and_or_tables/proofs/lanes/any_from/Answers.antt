@@ -1,5 +1,5 @@
 use Rattle.std.proofs.Common.{length, sym, eq-eqb}
-use Rattle.and_or_tables.specs.Masks.{holds}
+use Rattle.and_or_tables.specs.Cells.{holds}
 use Rattle.and_or_tables.proofs.Columns.{some_below}
 use Rattle.and_or_tables.proofs.lanes.any_from.Goals as goal
 

@@ -1,5 +1,5 @@
 use Rattle.std.proofs.Common.{length, sym, arith}
-use Rattle.and_or_tables.specs.Masks.{holds}
+use Rattle.and_or_tables.specs.Cells.{holds}
 use Rattle.and_or_tables.proofs.LanesLemmas.{group_none, group_some}
 use Rattle.and_or_tables.proofs.lanes.any_holds.Goals as goal
 
