@@ -4,4 +4,5 @@ pub mod CountsLemmas
 pub mod FastLemmas
 pub mod LanesLemmas
 pub mod Masked
+pub mod Shapes
 pub mod Spelling

@@ -12,3 +12,6 @@ pub use fast::FastTable;
 pub use ground::{GroundRow, GroundTable};
 pub use masks::MaskTable;
 pub use truths::Truths;
+
+#[cfg(test)]
+mod tests;
