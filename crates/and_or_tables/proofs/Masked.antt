@@ -124,7 +124,6 @@ IsMasked-made table m w is rows wide care want =
     let long : w ≡ length m.care.items = sym (ap length care ∙ length-map (below w) (care_word (cells_of table)) ∙ length-below w) in
     record {
       some_row = omega (arith, rows, is.some_row);
-      few_rows = omega (arith, rows, is.few_rows);
       care = care ∙ ap (λ rs. map (care_word rs) (below w)) same ∙ ap (λ n. map (care_word (spelled_by m)) (below n)) long;
       want = want ∙ ap (λ rs. map (want_word rs) (below w)) same ∙ ap (λ n. map (want_word (spelled_by m)) (below n)) long;
     }

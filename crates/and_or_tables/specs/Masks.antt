@@ -1,5 +1,5 @@
 -- What a mask table is: the cells that its words spell.
-use Rattle.std.specs.Prelude.{◌≡◌, ◌<◌, ◌≤◌, List, length, map}
+use Rattle.std.specs.Prelude.{◌≡◌, ◌<◌, List, length, map}
 use Rattle.rsml_syntax.specs.declared.syntax.Cell.{Cell}
 use Rattle.rsml_syntax.specs.Tables.{below}
 use Rattle.and_or_tables.specs.Cells.{care_word, want_word, spelled}
@@ -12,6 +12,5 @@ spelled_by m = spelled m.rows m.care.items m.want.items
 -- its words are those of the cells that they spell
 pub record IsMasked (m : Inside) : Type 0 where
   pub some_row : 0 < m.rows
-  pub few_rows : m.rows ≤ 64
   pub care : m.care.items ≡ map (care_word (spelled_by m)) (below (length m.care.items))
   pub want : m.want.items ≡ map (want_word (spelled_by m)) (below (length m.care.items))
