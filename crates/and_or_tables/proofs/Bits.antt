@@ -1,16 +1,15 @@
 -- A column is true for the bits of a word exactly where the word's bits under its care word are its want word.
-use Rattle.std.proofs.Common.{◌≡◌, Decides, ℕ, ◌+◌, ◌*◌, ◌/◌, ◌%◌, ◌^◌, ◌<◌, ◌≤◌, suc, zero, Bool, true, false, ◌||◌, ◌&&◌, cond, eqb, List, [], ◌∷◌, ◌++◌, length, get_or, map, min, refl, ap, sym, ◌∙◌, arith, add-one, ◌⊎◌, inl, inr}
-use Rattle.std.specs.Int.{bit_at}
-use Rattle.std.specs.List.{list_any, list_all, zip}
-use Rattle.std.specs.Simd.Lanes.{mask_l, zip2}
-use Rattle.std.proofs.lemmas.List.{length-map, map-append}
-use Rattle.std.proofs.lemmas.Nat.Bits.{bit_at-suc, bit_at_lowest, bit_at-lt}
+use Rattle.std.proofs.Common.{◌≡◌, Decides, ℕ, ◌+◌, ◌*◌, ◌/◌, ◌%◌, suc, zero, Bool, true, false, ◌&&◌, cond, eqb, List, [], ◌∷◌, ◌++◌, length, get_or, map, min, refl, ap, sym, ◌∙◌, arith}
+use Rattle.std.specs.List.{zip}
+use Rattle.std.specs.Simd.Lanes.{mask_l}
+use Rattle.std.proofs.lemmas.List.{map-append}
+use Rattle.std.proofs.lemmas.Nat.Bits.{bit_at-suc, bit_at_lowest}
 use Rattle.std.proofs.lemmas.Simd.{map-map}
 use Rattle.std.proofs.lemmas.Bool.Decides.{Decides-eqb, same_from_decides, nat_tests}
 use lib.Bits.{bit_and, and_step, and_zero_r}
 use Rattle.rsml_syntax.specs.declared.syntax.Cell.{Cell}
 use Rattle.rsml_syntax.specs.declared.syntax.Cell.TheVariants as cells
-use Rattle.rsml_syntax.specs.Tables.{TableRow, allows, column, width, below, table_truth}
+use Rattle.rsml_syntax.specs.Tables.{allows, column, below}
 use Rattle.and_or_tables.specs.Asked.{bit, asked}
 use Rattle.and_or_tables.specs.Cells.{cares, wants, care_word, want_word}
 
@@ -43,9 +42,9 @@ column-asked word (row ∷ rows) place =
 -- two tests of equations that follow from each other
 same_test : (a b c d : ℕ) → (a ≡ b → c ≡ d) → (c ≡ d → a ≡ b) → eqb a b ≡ eqb c d
 same_test a b c d there back = same_from_decides (eqb a b) (eqb c d) (Decides-eqb a b) (both (eqb c d) (Decides-eqb c d))
- where
-  both : (r : Bool) → Decides r (c ≡ d) → Decides r (a ≡ b)
-  both r h = (λ e. back (h.0 e), λ e. h.1 (there e))
+  where
+    both : (r : Bool) → Decides r (c ≡ d) → Decides r (a ≡ b)
+    both r h = (λ e. back (h.0 e), λ e. h.1 (there e))
 
 -- the lowest bit under a mask apart from the others
 low_bit : (word : ℕ) (b : Bool) (m : ℕ) → bit_and word (cond b 1 0 + 2 * m) ≡ bit_and (word / 2) m * 2 + min (word % 2) (cond b 1 0)

@@ -1,11 +1,11 @@
 -- A column of a ground table, row by row, and the columns of a table, one by one.
-use Rattle.std.proofs.Common.{◌≡◌, ℕ, ◌+◌, ◌<◌, ◌≤◌, suc, zero, Bool, true, false, ◌||◌, ◌&&◌, List, [], ◌∷◌, ◌++◌, length, get_or, map, take, refl, ap, sym, ◌∙◌, arith, add-one, ◌⊎◌, inl, inr}
-use Rattle.std.specs.List.{list_any, list_all}
+use Rattle.std.proofs.Common.{◌≡◌, ℕ, ◌+◌, ◌<◌, ◌≤◌, suc, zero, Bool, true, false, ◌||◌, List, [], ◌∷◌, length, get_or, map, take, refl, ap, sym, ◌∙◌, arith, add-one, inl, inr}
+use Rattle.std.specs.List.{list_any}
 use Rattle.std.proofs.lemmas.List.{get_or-map, length-map, map_more}
-use Rattle.std.proofs.lemmas.List.Folds.{list_all-append, list_any-append, list_any_at, list_all_at}
+use Rattle.std.proofs.lemmas.List.Folds.{list_all-append, list_any-append, list_all_at}
 use Rattle.std.proofs.lemmas.Bool.{cases_lt}
 use Rattle.rsml_syntax.specs.declared.syntax.Cell.TheVariants as cells
-use Rattle.rsml_syntax.specs.Tables.{TableRow, allows, column, width, below, table_truth}
+use Rattle.rsml_syntax.specs.Tables.{TableRow, allows, column, width, below}
 use Rattle.and_or_tables.specs.declared.ground.GroundRow.{GroundRow}
 use Rattle.and_or_tables.specs.declared.ground.GroundTable.{GroundTable}
 use Rattle.and_or_tables.specs.Ground.{known, ground_row, ground_table}
@@ -43,13 +43,13 @@ pub some_below : (f : ℕ → Bool) (n place : ℕ) → place < n → f place �
 some_below f zero place within here = absurd (omega arith)
 some_below f (suc n) place within here =
     list_any-append f (below n) (n ∷ []) ∙ elim (cases_lt place n) [
-      inl less ↦ rw (some_below f n place less here) refl
-    | inr more ↦ let same : n ≡ place = omega arith in rw (same, here) (or_true (list_any f (below place)))
+      | inl less ↦ rw (some_below f n place less here) refl
+      | inr more ↦ let same : n ≡ place = omega arith in rw (same, here) (or_true (list_any f (below place)))
     ]
- where
-  or_true : (b : Bool) → b || (true || false) ≡ true
-  or_true true = refl
-  or_true false = refl
+  where
+    or_true : (b : Bool) → b || (true || false) ≡ true
+    or_true true = refl
+    or_true false = refl
 
 -- a ground table has as many columns as its first row has cells
 pub width-ground : (truths : List Bool) (rows : List GroundRow) → width (map (ground_row truths) rows) ≡ columns (map (λ row. row.cells) rows)

@@ -1,11 +1,11 @@
 -- Lanes that count.
-use Rattle.std.proofs.Common.{◌≡◌, ℕ, ◌+◌, ◌-◌, ◌*◌, ◌%◌, ◌^◌, ◌<◌, ◌≤◌, suc, zero, Bool, true, false, not, ◌||◌, cond, eqb, List, [], ◌∷◌, ◌++◌, length, get_or, map, take, drop, replicate, refl, ap, sym, ◌∙◌, arith, w64}
+use Rattle.std.proofs.Common.{◌≡◌, ℕ, ◌+◌, ◌-◌, ◌^◌, ◌<◌, ◌≤◌, suc, zero, Bool, true, false, cond, eqb, List, [], ◌∷◌, length, get_or, map, take, drop, replicate, refl, ap, sym, ◌∙◌, arith, w64}
 use Rattle.std.specs.List.{count_by}
 use Rattle.std.specs.Simd.Lanes.{Each1, Each2, chunk, put_chunk, sel_l, sum_l, top, zip2}
 use Rattle.std.proofs.lemmas.List.{length-map, take_rest, take-append-drop}
 use Rattle.std.proofs.lemmas.List.Sums.{count_by-le-length, sum_by-cons, sum_by-append}
 use Rattle.std.proofs.Math.Seq.{take-add}
-use Rattle.std.proofs.lemmas.Simd.{sum_fits, fold-sum, tops_compared, zip2_splat, map-map, length-zip2, sum-zip2, adds_fit, Each2-of, Each1-from_get_or, get_or-chunk, length-chunk, get_or-zip2, get_or-put_chunk_at}
+use Rattle.std.proofs.lemmas.Simd.{tops_compared, zip2_splat, map-map, length-zip2, sum-zip2, adds_fit, Each2-of, Each1-from_get_or, get_or-chunk, length-chunk, get_or-zip2, get_or-put_chunk_at}
 use mir.Val.{Fits, bits, hbits}
 use lib.Bits.{bit_and}
 use Rattle.and_or_tables.specs.Cells.{holds}
@@ -41,15 +41,15 @@ compared_ones n word care want long as_long =
 
 pub counted_fits : (n word : ℕ) (care want counts : List ℕ) → length care ≡ n → length want ≡ n → Each1 (λ count. count < 18446744073709551615) counts
     → Each2 (λ a b. Fits w64 (a + b)) counts
-      (sel_l (map (top (hbits w64)) (zip2 (λ a b. cond (eqb a b) (2 ^ bits w64 - 1) 0) (zip2 bit_and (replicate n word) care) want)) (replicate n 1) (replicate n 0))
+    (sel_l (map (top (hbits w64)) (zip2 (λ a b. cond (eqb a b) (2 ^ bits w64 - 1) 0) (zip2 bit_and (replicate n word) care) want)) (replicate n 1) (replicate n 0))
 counted_fits n word care want counts long as_long room =
     let hits = zip2 (λ c w. eqb (bit_and word c) w) care want in
     rw (compared_ones n word care want long as_long)
-      (Each2-of (λ count. count < 18446744073709551615) (λ k. k ≤ 1) (λ a b. Fits w64 (a + b)) (λ a b p q. record { fits = omega arith }) counts (ones hits) room (ones-small hits))
+    (Each2-of (λ count. count < 18446744073709551615) (λ k. k ≤ 1) (λ a b. Fits w64 (a + b)) (λ a b p q. record { fits = omega arith }) counts (ones hits) room (ones-small hits))
 
 pub counted_sums : (n word : ℕ) (care want counts : List ℕ) → length care ≡ n → length want ≡ n
     → zip2 (λ a b. a + b) counts
-      (sel_l (map (top (hbits w64)) (zip2 (λ a b. cond (eqb a b) (2 ^ bits w64 - 1) 0) (zip2 bit_and (replicate n word) care) want)) (replicate n 1) (replicate n 0))
+    (sel_l (map (top (hbits w64)) (zip2 (λ a b. cond (eqb a b) (2 ^ bits w64 - 1) 0) (zip2 bit_and (replicate n word) care) want)) (replicate n 1) (replicate n 0))
     ≡ zip2 (λ count hit. count + cond hit 1 0) counts (zip2 (λ c w. eqb (bit_and word c) w) care want)
 counted_sums n word care want counts long as_long =
     let hits = zip2 (λ c w. eqb (bit_and word c) w) care want in
@@ -66,10 +66,10 @@ hits_of n care want words long =
     let as_long : length masked ≡ n = length-map words (λ word. bit_and word care) ∙ long in
     let test : ℕ → Bool = λ word. eqb (bit_and word care) want in
     ap (λ hits. sel_l hits (replicate n 1) (replicate n 0))
-      (tops_compared w64 eqb (zip2 bit_and words (replicate n care)) (replicate n want)
-        ∙ ap (λ xs. zip2 eqb xs (replicate n want)) (zip2_splat bit_and words n care long)
-        ∙ zip2_splat eqb masked n want as_long
-        ∙ map-map (λ x. eqb x want) (λ word. bit_and word care) words)
+    (tops_compared w64 eqb (zip2 bit_and words (replicate n care)) (replicate n want)
+    ∙ ap (λ xs. zip2 eqb xs (replicate n want)) (zip2_splat bit_and words n care long)
+    ∙ zip2_splat eqb masked n want as_long
+    ∙ map-map (λ x. eqb x want) (λ word. bit_and word care) words)
     ∙ selected (map test words) n (length-map words test ∙ long)
 
 sum-ones : (p : ℕ → Bool) (words : List ℕ) → sum_l (ones (map p words)) ≡ count_by p words
@@ -78,14 +78,14 @@ sum-ones p (word ∷ words) = ap (λ n. cond (p word) 1 0 + n) (sum-ones p words
 
 pub hits_fit : (n care want : ℕ) (words sums : List ℕ) → length words ≡ n → sum_l sums + n < 2 ^ 64
     → Each2 (λ a b. Fits w64 (a + b)) sums
-      (sel_l (map (top (hbits w64)) (zip2 (λ a b. cond (eqb a b) (2 ^ bits w64 - 1) 0) (zip2 bit_and words (replicate n care)) (replicate n want))) (replicate n 1) (replicate n 0))
+    (sel_l (map (top (hbits w64)) (zip2 (λ a b. cond (eqb a b) (2 ^ bits w64 - 1) 0) (zip2 bit_and words (replicate n care)) (replicate n want))) (replicate n 1) (replicate n 0))
 hits_fit n care want words sums long room =
     let p : ℕ → Bool = λ word. eqb (bit_and word care) want in
     rw (hits_of n care want words long) (adds_fit w64 sums (ones (map p words)) (omega (arith, sum-ones p words, count_by-le-length p words)))
 
 pub hits_sums : (n care want : ℕ) (words sums : List ℕ) → length words ≡ n
     → zip2 (λ a b. a + b) sums
-      (sel_l (map (top (hbits w64)) (zip2 (λ a b. cond (eqb a b) (2 ^ bits w64 - 1) 0) (zip2 bit_and words (replicate n care)) (replicate n want))) (replicate n 1) (replicate n 0))
+    (sel_l (map (top (hbits w64)) (zip2 (λ a b. cond (eqb a b) (2 ^ bits w64 - 1) 0) (zip2 bit_and words (replicate n care)) (replicate n want))) (replicate n 1) (replicate n 0))
     ≡ zip2 (λ a b. a + b) sums (ones (map (λ word. eqb (bit_and word care) want) words))
 hits_sums n care want words sums long = ap (zip2 (λ a b. a + b) sums) (hits_of n care want words long)
 
@@ -169,7 +169,7 @@ pub block_more : (p : ℕ → Bool) (words : List ℕ) (at n before after first 
 block_more p words at n before after first counted more =
     let size : at + n - at ≡ n = omega arith in
     let joined : count_by p (take (at + n) words) ≡ count_by p (take at words) + count_by p (take n (drop at words)) =
-      ap (count_by p) (take-add at n words) ∙ sum_by-append (λ w. cond (p w) 1 0) (take at words) (take n (drop at words)) in
+    ap (count_by p) (take-add at n words) ∙ sum_by-append (λ w. cond (p w) 1 0) (take at words) (take n (drop at words)) in
     let here : count_by p (take (at + n - at) (drop at words)) ≡ count_by p (take n (drop at words)) = ap (λ k. count_by p (take k (drop at words))) size in
     omega (arith, joined, here, counted, more)
 
@@ -180,5 +180,5 @@ pub block_last : (p : ℕ → Bool) (words : List ℕ) (at before after first : 
 block_last p words at before after first counted more =
     let rest : count_by p (take (length words - at) (drop at words)) ≡ count_by p (drop at words) = ap (count_by p) (take_rest words at) in
     let joined : count_by p words ≡ count_by p (take at words) + count_by p (drop at words) =
-      ap (count_by p) (sym (take-append-drop at words)) ∙ sum_by-append (λ w. cond (p w) 1 0) (take at words) (drop at words) in
+    ap (count_by p) (sym (take-append-drop at words)) ∙ sum_by-append (λ w. cond (p w) 1 0) (take at words) (drop at words) in
     omega (arith, joined, rest, counted, more)

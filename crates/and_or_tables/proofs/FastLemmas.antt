@@ -1,11 +1,11 @@
 -- A table of phrases and masks, asked with the truths of its phrases.
 use Rattle.std.proofs.Common.{◌≡◌, ℕ, ◌<◌, ◌≤◌, Bool, false, List, [], ◌∷◌, length, get_or, map, drop, refl, ap, sym, ◌∙◌, arith}
 use Rattle.std.specs.List.{All, zip}
-use Rattle.std.specs.Simd.Lanes.{mask_l, zip2}
+use Rattle.std.specs.Simd.Lanes.{mask_l}
 use Rattle.std.proofs.lemmas.List.{length-map, length-drop}
 use Rattle.std.proofs.lemmas.Simd.{get_or-zip2, length-zip2}
 use Rattle.rsml_syntax.specs.declared.syntax.Cell.{Cell}
-use Rattle.rsml_syntax.specs.Tables.{TableRow, below, table_truth}
+use Rattle.rsml_syntax.specs.Tables.{below, table_truth}
 use Rattle.and_or_tables.specs.declared.fast.FastTable.TheInside.{Inside}
 use Rattle.and_or_tables.specs.declared.ground.GroundRow.{GroundRow}
 use Rattle.and_or_tables.specs.declared.ground.GroundTable.{GroundTable}
@@ -38,15 +38,15 @@ asked-gathered truths phrases rows paired =
     let bits : List Bool = map (known truths) phrases in
     let long : length bits ≡ length rows = length-map phrases (known truths) ∙ paired in
     ap (λ bs. zip bs rows)
-      (map-places (bit (mask_l bits)) (λ k. get_or bits k false) (length rows) (λ k _. bit-mask bits k)
-        ∙ ap (λ n. map (λ k. get_or bits k false) (below n)) (sym long)
-        ∙ items-places bits false)
+    (map-places (bit (mask_l bits)) (λ k. get_or bits k false) (length rows) (λ k _. bit-mask bits k)
+    ∙ ap (λ n. map (λ k. get_or bits k false) (below n)) (sym long)
+    ∙ items-places bits false)
     ∙ rows_of phrases rows
- where
-  rows_of : (ps : List ℕ) (rs : List (List Cell)) → zip (map (known truths) ps) rs ≡ map (ground_row truths) (rows_with ps rs)
-  rows_of [] rs = refl
-  rows_of (p ∷ ps) [] = refl
-  rows_of (p ∷ ps) (r ∷ rs) = ap (λ xs. (known truths p, r) ∷ xs) (rows_of ps rs)
+  where
+    rows_of : (ps : List ℕ) (rs : List (List Cell)) → zip (map (known truths) ps) rs ≡ map (ground_row truths) (rows_with ps rs)
+    rows_of [] rs = refl
+    rows_of (p ∷ ps) [] = refl
+    rows_of (p ∷ ps) (r ∷ rs) = ap (λ xs. (known truths p, r) ∷ xs) (rows_of ps rs)
 
 -- room for one more truth
 pub gathered_room : (truths : List Bool) (phrases : List ℕ) (k : ℕ) → length phrases ≤ 64 → 0 < k → mask_l (map (known truths) (drop k phrases)) < 9223372036854775808

@@ -1,10 +1,9 @@
 -- Lanes of the words of columns, and groups of places.
-use Rattle.std.proofs.Common.{◌≡◌, ℕ, ◌+◌, ◌-◌, ◌*◌, ◌%◌, ◌^◌, ◌<◌, ◌≤◌, suc, zero, Bool, true, false, not, ◌||◌, cond, eqb, List, [], ◌∷◌, ◌++◌, length, get_or, map, take, drop, replicate, refl, ap, sym, ◌∙◌, arith, add-one, add-zero, inl, inr, w64}
+use Rattle.std.proofs.Common.{◌≡◌, ℕ, ◌+◌, ◌-◌, ◌*◌, ◌%◌, ◌^◌, ◌<◌, ◌≤◌, suc, zero, Bool, true, false, not, ◌||◌, cond, eqb, List, [], ◌∷◌, length, get_or, map, take, replicate, refl, ap, sym, ◌∙◌, arith, add-one, add-zero, w64}
 use Rattle.std.specs.List.{list_any, range_with_len}
 use Rattle.std.specs.Simd.Lanes.{mask_l, zip2, chunk, top}
-use Rattle.std.proofs.lemmas.List.{length-map, drop_more}
+use Rattle.std.proofs.lemmas.List.{drop_more}
 use Rattle.std.proofs.lemmas.List.Folds.{list_any-append}
-use Rattle.std.proofs.lemmas.Bool.{cases_lt}
 use Rattle.std.proofs.lemmas.Simd.{tops_compared, zip2_splat_left, mask_l-mod, length-zip2}
 use Rattle.std.proofs.Math.Bool.{or-false, or-true}
 use Rattle.std.proofs.lemmas.Bool.Decides.{nat_tests}
@@ -12,19 +11,18 @@ use mir.Val.{bits, hbits}
 use lib.Bits.{bit_and}
 use Rattle.rsml_syntax.specs.Tables.{below}
 use Rattle.and_or_tables.specs.Cells.{holds}
-use Rattle.and_or_tables.proofs.Columns.{some_below}
 
 -- a mask is not 0 where one of its bits is set
 mask-any : (ms : List Bool) → not (eqb (mask_l ms) 0) ≡ list_any (λ b. b) ms
 mask-any [] = refl
 mask-any (true ∷ ms) = one (mask_l ms)
- where
-  one : (n : ℕ) → not (eqb (1 + 2 * n) 0) ≡ true
-  one n = grind (arith, nat_tests)
+  where
+    one : (n : ℕ) → not (eqb (1 + 2 * n) 0) ≡ true
+    one n = grind (arith, nat_tests)
 mask-any (false ∷ ms) = none (mask_l ms) ∙ mask-any ms
- where
-  none : (n : ℕ) → not (eqb (0 + 2 * n) 0) ≡ not (eqb n 0)
-  none n = grind (arith, nat_tests)
+  where
+    none : (n : ℕ) → not (eqb (0 + 2 * n) 0) ≡ not (eqb n 0)
+    none n = grind (arith, nat_tests)
 
 map-zip2 : {X Y Z W : Type 0} (g : Z → W) (f : X → Y → Z) (xs : List X) (ys : List Y) → map g (zip2 f xs ys) ≡ zip2 (λ x y. g (f x y)) xs ys
 map-zip2 g f [] ys = refl
@@ -78,11 +76,11 @@ group_any f (suc n) at =
     ∙ group_any f n (at + 1)
     ∙ ap (λ b. b || list_any f (range_with_len (at + 1) n)) (ap (λ k. list_any f (below k)) (add-one at) ∙ list_any-append f (below at) (at ∷ []))
     ∙ regroup (list_any f (below at)) (f at) (list_any f (range_with_len (at + 1) n))
- where
-  regroup : (a b c : Bool) → (a || (b || false)) || c ≡ (a || (b || c))
-  regroup true b c = refl
-  regroup false true c = refl
-  regroup false false c = refl
+  where
+    regroup : (a b c : Bool) → (a || (b || false)) || c ≡ (a || (b || c))
+    regroup true b c = refl
+    regroup false true c = refl
+    regroup false false c = refl
 
 pub group_none : (f : ℕ → Bool) (n at : ℕ) → list_any f (below at) ≡ false → list_any f (range_with_len at n) ≡ false → list_any f (below (at + n)) ≡ false
 group_none f n at before here = group_any f n at ∙ rw (before, here) refl

@@ -1,8 +1,8 @@
 -- What a mask table's words say of the cells that they spell.
-use Rattle.std.proofs.Common.{◌≡◌, ℕ, ◌+◌, ◌<◌, ◌≤◌, ◌^◌, suc, zero, Bool, cond, List, [], ◌∷◌, length, get_or, map, drop, refl, ap, sym, ◌∙◌, arith}
+use Rattle.std.proofs.Common.{◌≡◌, ℕ, ◌<◌, ◌≤◌, ◌^◌, suc, zero, Bool, List, [], ◌∷◌, length, get_or, map, drop, refl, ap, sym, ◌∙◌, arith}
 use Rattle.std.specs.List.{All, count_by, list_any}
-use Rattle.std.specs.Simd.Lanes.{mask_l, zip2}
-use Rattle.std.proofs.lemmas.List.{length-map, length-drop, get_or-map, drop_more}
+use Rattle.std.specs.Simd.Lanes.{mask_l}
+use Rattle.std.proofs.lemmas.List.{length-map, length-drop, get_or-map}
 use Rattle.std.proofs.lemmas.Simd.{length-zip2, mask_l-lt}
 use Rattle.std.proofs.Math.Nat.{pow-le-pow_right}
 use Rattle.rsml_syntax.specs.declared.syntax.Cell.{Cell}

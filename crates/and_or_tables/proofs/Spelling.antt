@@ -1,17 +1,17 @@
 -- The cells that the words of a table's columns spell.
-use Rattle.std.proofs.Common.{◌≡◌, ℕ, ◌+◌, ◌<◌, ◌≤◌, suc, zero, Bool, true, false, ◌||◌, cond, eqb, List, [], ◌∷◌, ◌++◌, length, get_or, map, refl, ap, sym, ◌∙◌, arith, subst, inl, inr}
+use Rattle.std.proofs.Common.{◌≡◌, ℕ, ◌<◌, suc, zero, Bool, true, false, ◌||◌, cond, eqb, List, [], ◌∷◌, ◌++◌, length, get_or, map, refl, ap, sym, ◌∙◌, arith, inl, inr}
 use Rattle.std.specs.List.{list_any, All}
-use Rattle.std.specs.Simd.Lanes.{mask_l, zip2}
+use Rattle.std.specs.Simd.Lanes.{mask_l}
 use Rattle.std.proofs.lemmas.List.{length-map, length-append, get_or-map, get_or_at, get_or_append_left, ext_get_or}
 use Rattle.std.proofs.lemmas.List.Folds.{list_any-append}
 use Rattle.std.proofs.lemmas.Bool.{cases_lt}
-use Rattle.std.proofs.lemmas.Simd.{map-map, zip2-map, length-zip2, bit_mask_l}
+use Rattle.std.proofs.lemmas.Simd.{map-map, zip2-map, bit_mask_l}
 use Rattle.rsml_syntax.specs.declared.syntax.Cell.{Cell}
 use Rattle.rsml_syntax.specs.declared.syntax.Cell.TheVariants as cells
-use Rattle.rsml_syntax.specs.Tables.{column, width, below, table_truth}
-use Rattle.and_or_tables.specs.Asked.{bit, asked}
-use Rattle.and_or_tables.specs.Cells.{cares, wants, care_word, want_word, holds, spelled_cell, spelled_row, spelled}
-use Rattle.and_or_tables.proofs.Bits.{below-suc, asked-cons, words-column}
+use Rattle.rsml_syntax.specs.Tables.{below}
+use Rattle.and_or_tables.specs.Asked.{bit}
+use Rattle.and_or_tables.specs.Cells.{cares, wants, care_word, want_word, spelled_cell, spelled_row, spelled}
+use Rattle.and_or_tables.proofs.Bits.{below-suc}
 
 pub length-below : (n : ℕ) → length (below n) ≡ n
 length-below zero = refl
@@ -21,10 +21,10 @@ pub get_or-below : (n k : ℕ) → k < n → get_or (below n) k 0 ≡ k
 get_or-below zero k within = absurd (omega arith)
 get_or-below (suc n) k within =
     elim (cases_lt k n) [
-      inl less ↦ get_or_append_left (below n) (n ∷ []) 0 k (rw (length-below n) less) ∙ get_or-below n k less
-    | inr more ↦
-        let last : k ≡ n = omega arith in
-        ap (λ i. get_or (below n ++ (n ∷ [])) i 0) last ∙ get_or_at (below n) n [] 0 n (length-below n) ∙ sym last
+      | inl less ↦ get_or_append_left (below n) (n ∷ []) 0 k (rw (length-below n) less) ∙ get_or-below n k less
+      | inr more ↦
+          let last : k ≡ n = omega arith in
+          ap (λ i. get_or (below n ++ (n ∷ [])) i 0) last ∙ get_or_at (below n) n [] 0 n (length-below n) ∙ sym last
     ]
 
 -- a function of the places, at a place
@@ -55,10 +55,10 @@ any-places f g (suc n) same =
 -- bit k of a word is item k of the list that it was made of
 pub bit-mask : (bits : List Bool) (k : ℕ) → bit (mask_l bits) k ≡ get_or bits k false
 bit-mask bits k = ap (λ n. eqb n 1) (bit_mask_l bits k) ∙ digit (get_or bits k false)
- where
-  digit : (b : Bool) → eqb (cond b 1 0) 1 ≡ b
-  digit true = refl
-  digit false = refl
+  where
+    digit : (b : Bool) → eqb (cond b 1 0) 1 ≡ b
+    digit true = refl
+    digit false = refl
 
 cell_again : (cell : Cell) → spelled_cell (cares cell) (wants cell) ≡ cell
 cell_again cells.T = refl
@@ -80,7 +80,7 @@ row_again rows w k within long =
     let spell : ℕ → ℕ → Cell = λ c m. spelled_cell (bit c k) (bit m k) in
     zip2-map spell (care_word rows) (want_word rows) (below w)
     ∙ map-places (λ p. spell (care_word rows p) (want_word rows p)) (λ p. get_or row p cells.Dot) w
-      (λ p _. ap (λ c. spelled_cell c (bit (want_word rows p) k)) (bit-word cares rows p k within) ∙ ap (spelled_cell (cares (get_or row p cells.Dot))) (bit-word wants rows p k within) ∙ cell_again (get_or row p cells.Dot))
+    (λ p _. ap (λ c. spelled_cell c (bit (want_word rows p) k)) (bit-word cares rows p k within) ∙ ap (spelled_cell (cares (get_or row p cells.Dot))) (bit-word wants rows p k within) ∙ cell_again (get_or row p cells.Dot))
     ∙ ap (λ n. map (λ p. get_or row p cells.Dot) (below n)) (sym long)
     ∙ items-places row cells.Dot
 

@@ -67,15 +67,16 @@ fn counted_lanes(bits: u64, care: u64x4, want: u64x4, counts: u64x4) -> u64x4
     counts.strict_add(hits.select(u64x4::splat(1), u64x4::splat(0)))
 }
 
-/// How many words are counted for all columns before the next ones are read: they stay in the processor's
-/// nearest memory meanwhile.
+/// How many words are counted for all columns before the next ones are read: they stay in the
+/// processor's nearest memory meanwhile.
 const BLOCK: usize = 1024;
 
 /// Adds to the count of each column the number of words that it is true for.
 pub fn count_all_holds(care: &[u64], want: &[u64], words: &[u64], counts: &mut [u64])
     requires same { length care.now ≡ length want.now }
     requires counts { length counts.old ≡ length care.now }
-    requires room { (k : ℕ) → k < length care.now → slice_index counts.old k + length words.now ≤ u64.MAX }
+    requires room { (k : ℕ) → k < length care.now
+        → slice_index counts.old k + length words.now ≤ u64.MAX }
     ensures { (k : ℕ) → k < length care.now → slice_index counts.new k
         ≡ slice_index counts.old k + count_by (λ word. holds word care.now want.now k) words.now }
 {
@@ -91,7 +92,8 @@ pub fn count_all_holds(care: &[u64], want: &[u64], words: &[u64], counts: &mut [
 fn count_block(care: &[u64], want: &[u64], words: &[u64], counts: &mut [u64])
     requires same { length care.now ≡ length want.now }
     requires counts { length counts.old ≡ length care.now }
-    requires room { (k : ℕ) → k < length care.now → slice_index counts.old k + length words.now ≤ u64.MAX }
+    requires room { (k : ℕ) → k < length care.now
+        → slice_index counts.old k + length words.now ≤ u64.MAX }
     ensures { (k : ℕ) → k < length care.now → slice_index counts.new k
         ≡ slice_index counts.old k + count_by (λ word. holds word care.now want.now k) words.now }
 {

@@ -40,7 +40,8 @@ impl FastTable {
         Ok(FastTable { phrases, masks })
     }
 
-    /// Whether some column is true: what `GroundTable::truth` answers of the table. It takes no memory.
+    /// Whether some column is true: what `GroundTable::truth` answers of the table. It takes no
+    /// memory.
     pub fn truth(&self, truths: &Truths) -> bool
         requires { PhrasesBelow (length truths.now) self.now }
         ensures { result ≡ ground_table truths.now self.now }

@@ -62,7 +62,8 @@ fn column_is_true(rows: &[GroundRow], truths: &Truths, place: usize) -> bool
 fn row_is_allowed(row: &GroundRow, truths: &Truths, place: usize) -> bool
     requires cell { place < length row.now.cells }
     requires phrase { row.now.phrase < length truths.now }
-    ensures { result ≡ allows (slice_index_or row.now.cells place Cell.Dot) (known truths.now row.now.phrase) }
+    ensures { result
+        ≡ allows (slice_index_or row.now.cells place Cell.Dot) (known truths.now row.now.phrase) }
 {
     is_allowed(cell_at(row, place), truths.get(row.phrase))
 }

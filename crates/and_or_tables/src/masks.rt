@@ -11,8 +11,8 @@ use rsml_syntax::{Cell, NoMemory};
 use std::alloc::Global;
 use std::marker::Model;
 
-/// A table whose columns are words: asked with its rows' truths as the bits of a word, bit k, from 0,
-/// for row k + 1. Contracts see it as the cells of its rows.
+/// A table whose columns are words. It is asked with its rows' truths as the bits of a word: bit k,
+/// from 0, is the truth of row k + 1. Contracts see it as the cells of its rows.
 #[derive(Debug, Drop)]
 pub struct MaskTable {
     rows: usize,
@@ -61,12 +61,14 @@ impl MaskTable {
         any_holds(self.care.as_slice(), self.want.as_slice(), bits)
     }
 
-    /// Adds 1 to the count of each column that is true, and leaves the other counts. It takes no memory.
+    /// Adds 1 to the count of each column that is true, and leaves the other counts. It takes no
+    /// memory.
     pub fn count_columns(&self, bits: u64, counts: &mut [u64])
         requires counts { length counts.old ≡ columns self.now }
         requires room { All (λ count. count < u64.MAX) counts.old }
         ensures { EachIndex counts.new (λ place. slice_index counts.new place
-            ≡ slice_index counts.old place + (if column (asked bits self.now) place then 1 else 0)) }
+            ≡ slice_index counts.old place
+            + (if column (asked bits self.now) place then 1 else 0)) }
     {
         count_holds(self.care.as_slice(), self.want.as_slice(), bits, counts);
     }
@@ -76,7 +78,8 @@ impl MaskTable {
         requires counts { length counts.old ≡ columns self.now }
         requires room { All (λ count. count + length bits.now ≤ u64.MAX) counts.old }
         ensures { EachIndex counts.new (λ place. slice_index counts.new place
-            ≡ slice_index counts.old place + count_by (λ word. column (asked word self.now) place) bits.now) }
+            ≡ slice_index counts.old place
+            + count_by (λ word. column (asked word self.now) place) bits.now) }
     {
         count_all_holds(self.care.as_slice(), self.want.as_slice(), bits, counts);
     }

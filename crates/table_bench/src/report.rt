@@ -2,8 +2,14 @@ use anyhow::Result;
 use std::rt::Clock;
 use std::time::Instant;
 
-/// Prints a way's answer, and where turns are given the least time that it took in one of them, in microseconds.
-pub fn report<R: Print + Clock, F: FnMut() -> u64>(rt: &R, name: &str, turns: Option<u32>, mut way: F) -> Result<()>
+/// Prints a way's answer, and where turns are given the least time that it took in one of them, in
+/// microseconds.
+pub fn report<R: Print + Clock, F: FnMut() -> u64>(
+    rt: &R,
+    name: &str,
+    turns: Option<u32>,
+    mut way: F,
+) -> Result<()>
     requires { F.IsAlwaysCallable way }
 {
     let Some(turns) = turns else {

@@ -7,6 +7,7 @@ use rsml_syntax::{Cell, List, NoMemory};
 use std::alloc::Global;
 
 pub const ROWS: u32 = 64;
+
 pub const COLUMNS: usize = 32;
 
 /// The words of a table's columns: which rows each asks for, and which of these it wants true.

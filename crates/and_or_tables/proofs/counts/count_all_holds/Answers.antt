@@ -7,8 +7,8 @@ pub loop-at-preserved : goal.loop-at-preserved
 loop-at-preserved c = record {
   within = omega arith;
   counted = λ k within. block_more (λ word. holds word c.args.care.now c.args.want.now k) c.args.words.now c.loop-at.at 1024
-    (get_or c.loop-at.counts k 0) (get_or c.count_block.new.counts k 0) (get_or c.args.counts.now k 0)
-    (c.loop-at.invariant.counted k within) (c.count_block.ensures k within);
+      (get_or c.loop-at.counts k 0) (get_or c.count_block.new.counts k 0) (get_or c.args.counts.now k 0)
+      (c.loop-at.invariant.counted k within) (c.count_block.ensures k within);
 }
 
 pub returns : goal.returns

@@ -1,4 +1,4 @@
-use Rattle.std.proofs.Common.{◌+◌, ◌≤◌, length, arith}
+use Rattle.std.proofs.Common.{arith}
 use Rattle.std.proofs.lemmas.Simd.{get_or-put_chunk_below, get_or-put_chunk_above}
 use Rattle.and_or_tables.proofs.CountsLemmas.{room_in_chunk, counted_place, length_counted}
 use Rattle.and_or_tables.proofs.counts.count_four.Goals as goal
@@ -17,5 +17,5 @@ returns-clause-counted c k low high =
 pub returns-clause-above : goal.returns-clause-above
 returns-clause-above c k low =
     let long = length_counted c.args.bits c.args.care.now c.args.want.now c.args.counts.now c.counted_lanes-sums.result c.args.at 4
-      c.requires.care c.requires.want c.requires.counts c.counted_lanes-sums.ensures in
+    c.requires.care c.requires.want c.requires.counts c.counted_lanes-sums.ensures in
     get_or-put_chunk_above c.args.at c.args.counts.now c.counted_lanes-sums.result k 0 (omega arith)

@@ -1,4 +1,4 @@
-use Rattle.std.proofs.Common.{◌+◌, zero-add, ◌∙◌, arith, w64}
+use Rattle.std.proofs.Common.{zero-add, ◌∙◌, arith, w64}
 use Rattle.std.proofs.lemmas.Simd.{sum_fits, fold-sum}
 use Rattle.and_or_tables.proofs.counts.sum_of_lanes.Goals as goal
 

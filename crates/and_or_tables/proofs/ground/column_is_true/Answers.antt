@@ -1,4 +1,4 @@
-use Rattle.std.proofs.Common.{sym, ◌∙◌}
+use Rattle.std.proofs.Common.{sym}
 use Rattle.and_or_tables.proofs.Columns.{column_stops}
 use Rattle.and_or_tables.proofs.ground.column_is_true.Goals as goal
 

@@ -1,4 +1,3 @@
-use Rattle.std.proofs.Common.{arith}
 use Rattle.and_or_tables.specs.Cells.{cares, wants}
 use Rattle.and_or_tables.proofs.Masked.{word_room}
 use Rattle.and_or_tables.proofs.masks.column_words.Goals as goal

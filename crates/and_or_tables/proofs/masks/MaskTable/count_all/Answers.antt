@@ -1,4 +1,4 @@
-use Rattle.std.proofs.Common.{◌+◌, ◌<◌, cond, length, get_or, ap, ◌∙◌, arith}
+use Rattle.std.proofs.Common.{◌+◌, ◌<◌, length, get_or, ap, ◌∙◌, arith}
 use Rattle.and_or_tables.proofs.Masked.{columns-seen, count-seen}
 use Rattle.and_or_tables.proofs.masks.MaskTable.count_all.Goals as goal
 
