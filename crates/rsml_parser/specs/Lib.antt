@@ -1,0 +1,7 @@
+pub mod Reading
+pub mod Mentions
+pub mod Sums
+pub mod Phrases
+pub mod Tables
+pub mod Declarations
+pub mod States

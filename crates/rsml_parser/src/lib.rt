@@ -1,0 +1,5 @@
+//! Tokens as specifications.
+#![tactic(auto)]
+
+mod list;
+mod reader;
