@@ -5,4 +5,9 @@ pub mod Leaves
 pub mod Lists
 pub mod Spelling
 pub mod MentionForms
+pub mod SpelledLists
 pub mod SumForms
+pub mod PhraseForms
+pub mod TableForms
+pub mod CaseForms
+pub mod DeclarationForms

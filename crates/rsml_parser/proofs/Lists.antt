@@ -6,7 +6,9 @@ use Rattle.rsml_syntax.specs.declared.token.Mark.{Mark}
 use Rattle.rsml_syntax.specs.declared.token.Token.{Token}
 use Rattle.rsml_syntax.specs.declared.token.Word.{Word}
 use Rattle.rsml_parser.specs.Reading.{Stop, Outcome, Reading, ◌>>=◌, and_then, pure, choose, first, sees_word, sees_mark, skip, word, mark, end, many_from, many}
+use Rattle.rsml_syntax.specs.Grammar as put
 use Rattle.rsml_parser.proofs.Forms.{Fit, Shares, Form, Then, left, none_yet, past, form_bind, form_pure, form_as, form_if}
+use Rattle.rsml_parser.proofs.Leaves.{form_word, form_mark}
 use Rattle.rsml_parser.proofs.Outcomes.{same_ok, same_err, bind_ok, chosen, cancel}
 
 -- A reading that takes a token.
@@ -18,7 +20,7 @@ skips : (b : Bool) (t : Token) (ts : Tokens) (x : Unit {0}) (rest : Tokens) → 
 skips true t ts x rest h = let n = ap length (same_ok tt x ts rest h).1 in omega (arith, n)
 skips false t ts x rest h = absurd cc
 
-pub shrinks_word : (w : Word) → Shrinks (word w)
+shrinks_word : (w : Word) → Shrinks (word w)
 unfolding word
 shrinks_word w = record { less = less }
   where
@@ -26,7 +28,7 @@ shrinks_word w = record { less = less }
     less [] x rest h = absurd cc
     less (t ∷ ts) x rest h = skips (sees_word w (t ∷ ts)) t ts x rest h
 
-pub shrinks_mark : (m : Mark) → Shrinks (mark m)
+shrinks_mark : (m : Mark) → Shrinks (mark m)
 unfolding mark
 shrinks_mark m = record { less = less }
   where
@@ -34,21 +36,49 @@ shrinks_mark m = record { less = less }
     less [] x rest h = absurd cc
     less (t ∷ ts) x rest h = skips (sees_mark m (t ∷ ts)) t ts x rest h
 
-pub shrinks_first : {A B : Type 0} {p : Reading A} {f : A → Reading B} {Q : Bool → A → B → Tokens → Tokens → Type 0} → Shrinks p → ((x : A) → Form (f x) (λ k. Q k x)) → Shrinks (p >>= f)
+shrinks_first : {A B : Type 0} {p : Reading A} {f : A → Reading B} {Q : Bool → A → B → Tokens → Tokens → Type 0} → Shrinks p → ((x : A) → Form (f x) (λ k. Q k x)) → Shrinks (p >>= f)
 shrinks_first {A} {B} {p} {f} {Q} one two = record { less = λ ts y rest h.
     let e = bind_ok (p ts) f (y, rest) h in
     let l = left (two e.0.0) e.0.1 y rest e.2 in
     let n = ap length l.1 in let m = length-append l.0 rest in let k = one.less ts e.0.0 e.0.1 e.1 in omega (arith, n, m, k) }
 
-pub shrinks_later : {A B : Type 0} {p : Reading A} {P : Bool → A → Tokens → Tokens → Type 0} {f : A → Reading B} → Form p P → ((x : A) → Shrinks (f x)) → Shrinks (p >>= f)
+shrinks_later : {A B : Type 0} {p : Reading A} {P : Bool → A → Tokens → Tokens → Type 0} {f : A → Reading B} → Form p P → ((x : A) → Shrinks (f x)) → Shrinks (p >>= f)
 shrinks_later {A} {B} {p} {P} {f} one two = record { less = λ ts y rest h.
     let e = bind_ok (p ts) f (y, rest) h in
     let l = left one ts e.0.0 e.0.1 e.1 in
     let n = ap length l.1 in let m = length-append l.0 e.0.1 in let k = (two e.0.0).less e.0.1 y rest e.2 in omega (arith, n, m, k) }
 
-pub shrinks_if : {A : Type 0} {test : Token → Bool} {p q : Reading A} → Shrinks p → Shrinks q → Shrinks (choose (first test) p q)
+shrinks_if : {A : Type 0} {test : Token → Bool} {p q : Reading A} → Shrinks p → Shrinks q → Shrinks (choose (first test) p q)
 shrinks_if {A} {test} {p} {q} one two = record { less = λ ts x rest h.
     elim (chosen (first test ts) (p ts) (q ts) (Ok (x, rest)) h) [ inl e ↦ one.less ts x rest e.1 | inr e ↦ two.less ts x rest e.1 ] }
+
+-- The laws of a reading that takes a token: an item of a list.
+pub record Item {A : Type 0} (read : Reading A) (P : Bool → A → Tokens → Tokens → Type 0) : Type 0 where
+  pub form : Form read P
+  pub shrinks : Shrinks read
+
+pub item_word : {A : Type 0} {f : Unit {0} → Reading A} {Q : Bool → Unit {0} → A → Tokens → Tokens → Type 0} (w : Word) → ((x : Unit {0}) → Form (f x) (λ k. Q k x)) →
+    Item (word w >>= f) (λ k. Then (λ _ rest us. us ≡ put.word w rest) (Q k))
+item_word w two = record { form = form_bind (form_word w) two; shrinks = shrinks_first (shrinks_word w) two }
+
+pub item_mark : {A : Type 0} {f : Unit {0} → Reading A} {Q : Bool → Unit {0} → A → Tokens → Tokens → Type 0} (m : Mark) → ((x : Unit {0}) → Form (f x) (λ k. Q k x)) →
+    Item (mark m >>= f) (λ k. Then (λ _ rest us. us ≡ put.mark m rest) (Q k))
+item_mark m two = record { form = form_bind (form_mark m) two; shrinks = shrinks_first (shrinks_mark m) two }
+
+pub item_first : {A B : Type 0} {p : Reading A} {P : Bool → A → Tokens → Tokens → Type 0} {f : A → Reading B} {Q : Bool → A → B → Tokens → Tokens → Type 0} →
+    Item p P → ((x : A) → Form (f x) (λ k. Q k x)) → Item (p >>= f) (λ k. Then (P k) (Q k))
+item_first one two = record { form = form_bind one.form two; shrinks = shrinks_first one.shrinks two }
+
+pub item_later : {A B : Type 0} {p : Reading A} {P : Bool → A → Tokens → Tokens → Type 0} {f : A → Reading B} {Q : Bool → A → B → Tokens → Tokens → Type 0} →
+    Form p P → ((x : A) → Item (f x) (λ k. Q k x)) → Item (p >>= f) (λ k. Then (P k) (Q k))
+item_later one two = record { form = form_bind one (λ x. (two x).form); shrinks = shrinks_later one (λ x. (two x).shrinks) }
+
+pub item_if : {A : Type 0} {test : Token → Bool} {p q : Reading A} {P : Bool → A → Tokens → Tokens → Type 0} → Item p P → Item q P → Item (choose (first test) p q) P
+item_if one two = record { form = form_if one.form two.form; shrinks = shrinks_if one.shrinks two.shrinks }
+
+pub item_as : {A : Type 0} {read : Reading A} {P Q : Bool → A → Tokens → Tokens → Type 0} → Item read P →
+    ((k : Bool) (x : A) (rest us : Tokens) → P k x rest us → Q k x rest us) → Item read Q
+item_as item say = record { form = form_as item.form say; shrinks = item.shrinks }
 
 -- Items while one begins.
 
@@ -86,19 +116,19 @@ many_fuel {A} test item sh (suc n) (suc m) (t ∷ ts) l k =
     go (Ok p) e rec = let lt = sh.less (t ∷ ts) p.0 p.1 e in ap (λ o. and_then o (λ xs. pure (p.0 ∷ xs))) (rec p.1 (omega (arith, lt, l)) (omega (arith, lt, k)))
     go (Err s) e rec = refl
 
-pub form_many : {A : Type 0} {item : Reading A} {P : Bool → A → Tokens → Tokens → Type 0} (test : Token → Bool) → Form item P → Shrinks item → Form (many (first test) item) (λ k. Each (P k))
+pub form_many : {A : Type 0} {item : Reading A} {P : Bool → A → Tokens → Tokens → Type 0} (test : Token → Bool) → Item item P → Form (many (first test) item) (λ k. Each (P k))
 unfolding many
-form_many {A} {item} {P} test form sh = record {
-    takes = λ k ts. (form_many_from test form (length ts)).takes k ts;
-    lifts = λ k ts. (form_many_from test form (length ts)).lifts k ts;
-    begins = λ k ts. (form_many_from test form (length ts)).begins k ts;
+form_many {A} {item} {P} test is = record {
+    takes = λ k ts. (form_many_from test is.form (length ts)).takes k ts;
+    lifts = λ k ts. (form_many_from test is.form (length ts)).lifts k ts;
+    begins = λ k ts. (form_many_from test is.form (length ts)).begins k ts;
     least = ([], λ k rest fit. record { us = rest; spelled = refl; fit = fit });
     same = λ front t a b x g h. let n = length (front ++ t ∷ a) + length (front ++ t ∷ b) in
-      many_fuel test item sh (length (front ++ t ∷ b)) n (front ++ t ∷ b) (omega arith) (omega arith)
-      ∙ (form_many_from test form n).same front t a b x g (many_fuel test item sh n (length (front ++ t ∷ a)) (front ++ t ∷ a) (omega arith) (omega arith) ∙ h);
+      many_fuel test item is.shrinks (length (front ++ t ∷ b)) n (front ++ t ∷ b) (omega arith) (omega arith)
+      ∙ (form_many_from test is.form n).same front t a b x g (many_fuel test item is.shrinks n (length (front ++ t ∷ a)) (front ++ t ∷ a) (omega arith) (omega arith) ∙ h);
     fails = λ front t a b k g h. let n = length (front ++ t ∷ a) + length (front ++ t ∷ b) in
-      many_fuel test item sh (length (front ++ t ∷ b)) n (front ++ t ∷ b) (omega arith) (omega arith)
-      ∙ (form_many_from test form n).fails front t a b k g (many_fuel test item sh n (length (front ++ t ∷ a)) (front ++ t ∷ a) (omega arith) (omega arith) ∙ h)
+      many_fuel test item is.shrinks (length (front ++ t ∷ b)) n (front ++ t ∷ b) (omega arith) (omega arith)
+      ∙ (form_many_from test is.form n).fails front t a b k g (many_fuel test item is.shrinks n (length (front ++ t ∷ a)) (front ++ t ∷ a) (omega arith) (omega arith) ∙ h)
   }
 
 -- The end.

@@ -22,7 +22,7 @@ use Rattle.rsml_parser.proofs.Spelling.{Writes, word_for, mark_for}
 
 pub form_minus : Writes minus put.minus
 unfolding minus
-form_minus = form_if (form_as (mark_for marks.Minus true) (λ k b rest us s. rw (s.0, s.1) refl)) (form_as (form_pure false) (λ k b rest us s. rw (s.1, s.0) refl))
+form_minus = form_if (form_as (mark_for marks.Minus true).form (λ k b rest us s. rw (s.0, s.1) refl)) (form_as (form_pure false) (λ k b rest us s. rw (s.1, s.0) refl))
 
 pub minus_again : (b : Bool) (rest : Tokens) → sees_mark marks.Minus rest ≡ false → minus (put.minus b rest) ≡ Ok (b, rest)
 unfolding minus and_then mark
@@ -73,7 +73,7 @@ unfolding index
 form_index =
     form_if (form_as (form_bind form_number (λ n. form_pure (indices.Number n))) (λ k x rest us s. rw (s.before, s.later.1, s.later.0) refl))
     (form_if (form_as (form_bind form_name (λ n. form_pure (indices.Name n))) (λ k x rest us s. rw (s.before, s.later.1, s.later.0) refl))
-    (form_as (word_for words.This indices.This) (λ k x rest us s. rw (s.0, s.1) refl)))
+    (form_as (word_for words.This indices.This).form (λ k x rest us s. rw (s.0, s.1) refl)))
 
 index_again : (i : Index) (rest : Tokens) → index (put.index i rest) ≡ Ok (i, rest)
 unfolding index and_then word name number

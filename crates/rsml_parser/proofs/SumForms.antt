@@ -1,11 +1,13 @@
 -- The laws of reading sums and relations.
-use Rattle.std.proofs.Common.{◌≡◌, Bool, true, false, List, [], ◌∷◌, Ok, refl, sym, ap, ◌∙◌}
+use Rattle.std.proofs.Common.{◌≡◌, ℕ, Bool, true, false, List, [], ◌∷◌, Ok, refl, sym, ap, ◌∙◌}
 use Rattle.std.specs.Prelude.{if◌then◌else◌, IsTrue}
 use Rattle.std.specs.List.{list_all}
 use Rattle.rsml_syntax.specs.Grammar as put
 use Rattle.rsml_syntax.specs.Tokens.{Tokens}
-use Rattle.rsml_syntax.specs.WellFormed.{sum_has_items}
+use Rattle.rsml_syntax.specs.WellFormed.{has_items, sum_has_items}
 use Rattle.rsml_syntax.specs.declared.token.Mark.TheVariants as marks
+use Rattle.rsml_syntax.specs.declared.token.Token.{Token}
+use Rattle.rsml_syntax.specs.declared.token.Token.TheVariants as token
 use Rattle.rsml_syntax.specs.declared.token.Word.TheVariants as words
 use Rattle.rsml_syntax.specs.declared.syntax.Operand.{Operand}
 use Rattle.rsml_syntax.specs.declared.syntax.Operand.TheVariants as operands
@@ -19,9 +21,10 @@ use Rattle.rsml_parser.specs.Sums.{operand, first_term, is_sign, sign, later_ter
 use Rattle.rsml_parser.proofs.Outcomes.{then_ok}
 use Rattle.rsml_parser.proofs.Forms.{form_bind, form_pure, form_as, form_if}
 use Rattle.rsml_parser.proofs.Leaves.{form_word, form_number}
-use Rattle.rsml_parser.proofs.Lists.{Shrinks, shrinks_mark, shrinks_first, shrinks_if}
+use Rattle.rsml_parser.proofs.Lists.{Item, item_first, item_if, item_as}
 use Rattle.rsml_parser.proofs.MentionForms.{form_minus, minus_again, form_mention, mention_again}
-use Rattle.rsml_parser.proofs.Spelling.{Writes, Reads, any, reads_any, all_any, mark_for, reads_many, many_again}
+use Rattle.rsml_parser.proofs.SpelledLists.{many_again}
+use Rattle.rsml_parser.proofs.Spelling.{Writes, Reads, any, any_item, all_any, mark_for, reads_many}
 
 pub form_operand : Writes operand put.operand
 unfolding operand
@@ -51,24 +54,19 @@ first_term_again : (t : Term) (rest : Tokens) → sees_mark marks.OpenBracket re
 unfolding first_term and_then
 first_term_again t rest free = rw (minus_again t.minus (put.operand t.operand rest) (no_minus t.operand rest), operand_again t.operand rest free) refl
 
-form_sign : Writes sign (λ m rest. put.mark (if m then marks.Minus else marks.Plus) rest)
+item_sign : Item sign (λ _ m rest us. us ≡ put.mark (if m then marks.Minus else marks.Plus) rest)
 unfolding sign
-form_sign = form_if (form_as (mark_for marks.Plus false) (λ k x rest us s. rw (s.0, s.1) refl)) (form_as (mark_for marks.Minus true) (λ k x rest us s. rw (s.0, s.1) refl))
+item_sign = item_if (item_as (mark_for marks.Plus false) (λ k x rest us s. rw (s.0, s.1) refl)) (item_as (mark_for marks.Minus true) (λ k x rest us s. rw (s.0, s.1) refl))
 
 sign_again : (m : Bool) (rest : Tokens) → sign (put.mark (if m then marks.Minus else marks.Plus) rest) ≡ Ok (m, rest)
 unfolding sign and_then mark
 sign_again true rest = refl
 sign_again false rest = refl
 
-form_later_term : Writes later_term put.later_term
+item_later_term : Item later_term (λ _ t rest us. us ≡ put.later_term t rest)
 unfolding later_term
-form_later_term = form_as (form_bind form_sign (λ m. form_bind form_operand (λ o. form_pure (record { minus = m; operand = o }))))
+item_later_term = item_as (item_first item_sign (λ m. form_bind form_operand (λ o. form_pure (record { minus = m; operand = o }))))
     (λ k x rest us s. rw (s.before, s.later.before, s.later.later.1, s.later.later.0) refl)
-
-shrinks_later_term : Shrinks later_term
-unfolding later_term sign
-shrinks_later_term = shrinks_first (shrinks_if (shrinks_first (shrinks_mark marks.Plus) (λ _. form_pure false)) (shrinks_first (shrinks_mark marks.Minus) (λ _. form_pure true)))
-    (λ m. form_bind form_operand (λ o. form_pure (record { minus = m; operand = o })))
 
 later_term_again : (t : Term) (rest : Tokens) → sees_mark marks.OpenBracket rest ≡ false → later_term (put.later_term t rest) ≡ Ok (t, rest)
 unfolding later_term and_then
@@ -90,7 +88,7 @@ no_bracket t rest = at t.minus
 
 pub form_sum : Reads sum put.sum sum_has_items
 unfolding sum
-form_sum = form_as (form_bind form_first_term (λ t. form_bind (reads_many is_sign (reads_any form_later_term) shrinks_later_term) (λ ts. form_pure (record { terms = t ∷ ts }))))
+form_sum = form_as (form_bind form_first_term (λ t. form_bind (reads_many is_sign (any_item item_later_term)) (λ ts. form_pure (record { terms = t ∷ ts }))))
     (λ k x rest us s. rw (s.before, s.later.before.0, s.later.later.1, s.later.later.0) (refl, refl))
 
 pub form_relation : Writes relation put.relation
@@ -99,7 +97,7 @@ form_relation = form_if (is marks.Equal relations.Equal refl) (form_if (is marks
     (form_if (is marks.LessEqual relations.LessEqual refl) (form_if (is marks.Greater relations.Greater refl) (is marks.GreaterEqual relations.GreaterEqual refl)))))
   where
     is : (m : _) (r : Relation) → m ≡ put.relation_mark r → Writes (mark m >>= (λ _. pure r)) put.relation
-    is m r e = form_as (mark_for m r) (λ k x rest us s. rw (s.0, s.1, e) refl)
+    is m r e = form_as (mark_for m r).form (λ k x rest us s. rw (s.0, s.1, e) refl)
 
 pub relation_again : (r : Relation) (rest : Tokens) → relation (put.relation r rest) ≡ Ok (r, rest)
 unfolding relation and_then mark
@@ -126,8 +124,28 @@ sum_again s rest good free = at s.terms good
         then_ok (first_term (put.first_term t more)) (λ t. many (first is_sign) later_term >>= (λ ts. pure (record { terms = t ∷ ts }))) t more (first_term_again t more (after ts))
         ∙ then_ok (many (first is_sign) later_term more) (λ ts. pure (record { terms = t ∷ ts })) ts rest
           (many_again is_sign later_term put.later_term any (λ r. sees_mark marks.OpenBracket r ≡ false) (λ t r good free. later_term_again t r free) (λ t r good. starts_with_sign t r) (λ t r good. no_bracket t r)
-            shrinks_later_term ts rest (all_any ts) free.bracket free.sign)
+            item_later_term.shrinks ts rest (all_any ts) free.bracket free.sign)
       where
         after : (ts : List Term) → sees_mark marks.OpenBracket (put.each put.later_term ts rest) ≡ false
         after [] = free.bracket
         after (t ∷ ts) = no_bracket t (put.each put.later_term ts rest)
+
+-- what the test says of the tokens with which a sum begins
+pub record BeginsSums (test : Token → Bool) (b : Bool) : Type 0 where
+  pub minus : test (token.Mark marks.Minus) ≡ b
+  pub number : (n : ℕ) → test (token.Number n) ≡ b
+  pub name : (n : List ℕ) → test (token.Name n) ≡ b
+  pub previous : test (token.Word words.Previous) ≡ b
+
+pub sum_begins : (test : Token → Bool) (b : Bool) → BeginsSums test b → (s : Sum) (rest : Tokens) → IsTrue (sum_has_items s) → first test (put.sum s rest) ≡ b
+sum_begins test b is s rest good = at s.terms good
+  where
+    with_operand : (m : Bool) (o : Operand) (more : Tokens) → first test (put.minus m (put.operand o more)) ≡ b
+    with_operand true o more = is.minus
+    with_operand false (operands.Number n) more = is.number n
+    with_operand false (operands.Mention m) more = is.name m.name
+    with_operand false (operands.Previous m) more = is.previous
+
+    at : (ts : List Term) → IsTrue (has_items ts) → first test (put.terms ts rest) ≡ b
+    at [] good = absurd cc
+    at (t ∷ ts) good = with_operand t.minus t.operand (put.each put.later_term ts rest)
