@@ -35,7 +35,7 @@ use Rattle.rsml_parser.proofs.TableForms.{form_table, table_again}
 pub form_names : (m : Mark) → Reads (separated m name) (put.separated m put.name) has_items
 form_names m = form_as (reads_separated m (reads_any form_name)) (λ k xs rest us s. (s.0, (halves (has_items xs) (list_all any xs) s.1).0))
 
-name_again : (n : Name) (rest : Tokens) → name (put.name n rest) ≡ Ok (n, rest)
+pub name_again : (n : Name) (rest : Tokens) → name (put.name n rest) ≡ Ok (n, rest)
 unfolding name
 name_again n rest = refl
 

@@ -89,7 +89,7 @@ form_known read test known is fits tells = form_same read (λ ts. is ts ∙ look
     sees : (t : Token) (x : Unit {0}) → seen test t ≡ Some x → t ≡ known
     sees t x h = elim (chosen (test t) (Some tt) None (Some x) h) [ inl e ↦ tells t e.0 | inr e ↦ absurd (let n = e.1 in cc) ]
 
-is_known_word : (w : Word) (t : Token) → is_the_word w t ≡ true → t ≡ token.Word w
+pub is_known_word : (w : Word) (t : Token) → is_the_word w t ≡ true → t ≡ token.Word w
 is_known_word w (token.Word v) h = ap (λ (x : Word). token.Word x) (sym (same_true W.the_type (search rules) w v h))
 is_known_word w (token.Name n) h = absurd cc
 is_known_word w (token.Number n) h = absurd cc
@@ -115,7 +115,7 @@ no_word : IsFalse (is_word editions.Second (95 ∷ []))
 unfolding spelling
 no_word = refl
 
-underscore : IsToken editions.Second (token.Name (95 ∷ []))
+pub underscore : IsToken editions.Second (token.Name (95 ∷ []))
 underscore = (95 ∷ [], refl, sym (ap (λ (l : List ℕ). l ++ []) (encode_ascii 95 (omega arith))), simp or-true, no_word)
 
 pub form_name : Form name (λ _ n rest us. us ≡ put.name n rest)

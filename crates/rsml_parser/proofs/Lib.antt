@@ -11,3 +11,7 @@ pub mod PhraseForms
 pub mod TableForms
 pub mod CaseForms
 pub mod DeclarationForms
+pub mod BodyLists
+pub mod StateForms
+pub mod BodyForms
+pub mod BodyAgain

@@ -122,9 +122,9 @@ simple_again (simples.Compare l r s) rest good =
 
 no_quantifier : (w : Word) → sees_word w (put.word words.In []) ≡ false → sees_word w (put.word words.Macro []) ≡ false → sees_word w (put.word words.Function []) ≡ false → sees_word w (put.word words.Previous []) ≡ false →
     (s : Simple) (rest : Tokens) → IsTrue (simple_has_items s) → sees_word w (put.simple s rest) ≡ false
-no_quantifier w i m f p (simples.In path) rest good = i
-no_quantifier w i m f p (simples.Macro mention) rest good = m
-no_quantifier w i m f p (simples.Function function r s) rest good = f
+no_quantifier w i m f p (simples.In _) rest good = i
+no_quantifier w i m f p (simples.Macro _) rest good = m
+no_quantifier w i m f p (simples.Function _ _ _) rest good = f
 no_quantifier w i m f p (simples.Compare l r s) rest good = not_a_sum w p l (put.relation r (put.sum s rest)) (halves (sum_has_items l) (sum_has_items s) good).0
 
 pub phrase_again : (p : Phrase) (rest : Tokens) → IsTrue (phrase_has_items p) → phrase (put.phrase p (bar rest)) ≡ Ok (p, bar rest)
