@@ -96,6 +96,7 @@ form_no_children = record {
     lifts = λ k ts x rest h stop more s. let e = went ts x rest h in
       record { us = more; spelled = subst (λ (cs : List StateDecl). (more ≡ put.each put.state cs more) × IsTrue (list_all (good_state (slack k 0)) cs)) e.0 (refl, refl); shares = subst (λ r. Shares r stop more) (sym e.1) s };
     begins = begins;
+    opens = never;
     least = ([], λ k rest fit. record { us = rest; spelled = (refl, refl); fit = fit });
     same = λ front t a b x g h. let e = went (front ++ t ∷ a) x (g ++ t ∷ a) h in
       takes_second (first opens_state (front ++ t ∷ b)) (Err (true, front ++ t ∷ b)) (Ok ([], front ++ t ∷ b)) (same_first opens_state front t b a ∙ e.2)
@@ -114,6 +115,9 @@ form_no_children = record {
     stood ts k r h = elim (chosen (first opens_state ts) (Err (true, ts)) (Ok ([], ts)) (Err (k, r)) h) [
         inl e ↦ let n = same_err true k ts r e.1 in (n.0, n.1, e.0)
       | inr e ↦ absurd (let n = e.1 in cc) ]
+
+    never : (ts : Tokens) → no_children ts ≡ Err (true, []) → ⊥
+    never ts h = let e = stood ts true [] h in let n = sym (ap (first opens_state) e.1) ∙ e.2 in cc
 
     begins : (k : Bool) (ts : Tokens) (s : Stop) → no_children ts ≡ Err s →
       (cs : List StateDecl) × ((rest : Tokens) → Fit rest → Spelled (λ cs rest us. (us ≡ put.each put.state cs rest) × IsTrue (list_all (good_state (slack k 0)) cs)) cs rest ts (past k s))

@@ -44,11 +44,13 @@ past true s = beyond s.0 s.1
 
 -- `P k x rest ts` says that ts is the tokens of x and then rest, where k says whether one more state may be nested.
 -- What is read is spelled so; what follows may be put in place of what is left; what comes before a fault goes on in
--- some way; something is spelled before any rest; and neither what is read nor the fault depends on what comes later.
+-- some way; a state too many is opened by a token; something is spelled before any rest; and neither what is read nor
+-- the fault depends on what comes later.
 pub record Form {A : Type 0} (read : Reading A) (P : Bool → A → Tokens → Tokens → Type 0) : Type 0 where
   pub takes : (k : Bool) (ts : Tokens) (x : A) (rest : Tokens) → read ts ≡ Ok (x, rest) → P k x rest ts
   pub lifts : (k : Bool) (ts : Tokens) (x : A) (rest : Tokens) → read ts ≡ Ok (x, rest) → (stop more : Tokens) → Shares rest stop more → Spelled (P k) x more ts stop
   pub begins : (k : Bool) (ts : Tokens) (s : Stop) → read ts ≡ Err s → (x : A) × ((rest : Tokens) → Fit rest → Spelled (P k) x rest ts (past k s))
+  pub opens : (ts : Tokens) → read ts ≡ Err (true, []) → ⊥
   pub least : (x : A) × ((k : Bool) (rest : Tokens) → Fit rest → Least (P k) x rest)
   pub same : (front : Tokens) (t : Token) (a b : Tokens) (x : A) (g : Tokens) → read (front ++ t ∷ a) ≡ Ok (x, g ++ t ∷ a) → read (front ++ t ∷ b) ≡ Ok (x, g ++ t ∷ b)
   pub fails : (front : Tokens) (t : Token) (a b : Tokens) (k : Bool) (g : Tokens) → read (front ++ t ∷ a) ≡ Err (k, g ++ t ∷ a) → read (front ++ t ∷ b) ≡ Err (k, g ++ t ∷ b)
@@ -91,6 +93,7 @@ form_bind {A} {B} {p} {P} {f} {Q} one two = record {
       | inr e ↦ let b = (two e.0.0).begins k e.0.1 s e.2 in
           (b.0, λ rest fit. joined k e.0.0 b.0 rest ts e.0.1 (past k s) (b.1 rest fit) (λ us s2. one.lifts k ts e.0.0 e.0.1 e.1 (past k s) us s2))
       ];
+    opens = λ ts h. elim (bind_err (p ts) f (true, []) h) [ inl e ↦ one.opens ts e | inr e ↦ (two e.0.0).opens e.0.1 e.2 ];
     least = let a = one.least in let b = (two a.0).least in
       (b.0, λ k rest fit. let l = b.1 k rest fit in let u = a.1 k l.us l.fit in
         record { us = u.us; spelled = record { got = a.0; mid = l.us; before = u.spelled; later = l.spelled }; fit = u.fit });
@@ -120,6 +123,7 @@ form_pure {A} x = record {
     lifts = λ k ts y rest h stop more s. let e = same_ok x y ts rest h in
       record { us = more; spelled = (sym e.0, refl); shares = subst (λ r. Shares r stop more) (sym e.1) s };
     begins = λ k ts s h. absurd cc;
+    opens = λ ts h. cc;
     least = (x, λ k rest fit. record { us = rest; spelled = (refl, refl); fit = fit });
     same = λ front t a b y g h. let e = same_ok x y (front ++ t ∷ a) (g ++ t ∷ a) h in
       ap (λ (z : A). Ok (z, front ++ t ∷ b)) e.0 ∙ ap (λ (l : Tokens). Ok (y, l ++ t ∷ b)) (cancel front g (t ∷ a) e.1);
@@ -135,6 +139,7 @@ form_as form say = record {
     lifts = λ k ts x rest h stop more s. let u = form.lifts k ts x rest h stop more s in record { us = u.us; spelled = say k x more u.us u.spelled; shares = u.shares };
     begins = λ k ts s h. let b = form.begins k ts s h in
       (b.0, λ rest fit. let u = b.1 rest fit in record { us = u.us; spelled = say k b.0 rest u.us u.spelled; shares = u.shares });
+    opens = form.opens;
     least = let l = form.least in (l.0, λ k rest fit. let u = l.1 k rest fit in record { us = u.us; spelled = say k l.0 rest u.us u.spelled; fit = u.fit });
     same = form.same;
     fails = form.fails
@@ -147,6 +152,7 @@ form_same p e form = record {
     takes = λ k ts x rest h. form.takes k ts x rest (sym (e ts) ∙ h);
     lifts = λ k ts x rest h. form.lifts k ts x rest (sym (e ts) ∙ h);
     begins = λ k ts s h. form.begins k ts s (sym (e ts) ∙ h);
+    opens = λ ts h. form.opens ts (sym (e ts) ∙ h);
     least = form.least;
     same = λ front t a b x g h. e (front ++ t ∷ b) ∙ form.same front t a b x g (sym (e (front ++ t ∷ a)) ∙ h);
     fails = λ front t a b k g h. e (front ++ t ∷ b) ∙ form.fails front t a b k g (sym (e (front ++ t ∷ a)) ∙ h)
@@ -164,6 +170,7 @@ form_if {A} {test} {p} {q} {P} one two = record {
     takes = λ k ts x rest h. elim (chosen (first test ts) (p ts) (q ts) (Ok (x, rest)) h) [ inl e ↦ one.takes k ts x rest e.1 | inr e ↦ two.takes k ts x rest e.1 ];
     lifts = λ k ts x rest h. elim (chosen (first test ts) (p ts) (q ts) (Ok (x, rest)) h) [ inl e ↦ one.lifts k ts x rest e.1 | inr e ↦ two.lifts k ts x rest e.1 ];
     begins = λ k ts s h. elim (chosen (first test ts) (p ts) (q ts) (Err s) h) [ inl e ↦ one.begins k ts s e.1 | inr e ↦ two.begins k ts s e.1 ];
+    opens = λ ts h. elim (chosen (first test ts) (p ts) (q ts) (Err (true, [])) h) [ inl e ↦ one.opens ts e.1 | inr e ↦ two.opens ts e.1 ];
     least = two.least;
     same = λ front t a b x g h. elim (chosen (first test (front ++ t ∷ a)) (p (front ++ t ∷ a)) (q (front ++ t ∷ a)) (Ok (x, g ++ t ∷ a)) h) [
         inl e ↦ way_first front t a b e.0 ∙ one.same front t a b x g e.1

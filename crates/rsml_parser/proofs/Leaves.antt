@@ -42,6 +42,7 @@ form_looked {A} see spell any fits sees = record {
       shares = subst (λ l. Shares l stop (spell x ∷ more)) (sym (took ts x rest h)) (one_more (spell x) rest stop more s) };
     begins = λ k ts s h. (any, λ rest fit. record { us = spell any ∷ rest; spelled = refl;
       shares = subst (λ l. Shares ts l (spell any ∷ rest)) (stopped k ts s h) (none_yet ts (spell any ∷ rest) (fits, fit)) });
+    opens = λ ts h. absurd (let e = (found_err (of_first see ts) ts true [] h).1 in cc);
     least = (any, λ k rest fit. record { us = spell any ∷ rest; spelled = refl; fit = (fits, fit) });
     same = same_looked;
     fails = fails_looked

@@ -15,3 +15,5 @@ pub mod BodyLists
 pub mod StateForms
 pub mod BodyForms
 pub mod BodyAgain
+pub mod Deeper
+pub mod SpecificationForms

@@ -122,6 +122,7 @@ form_many {A} {item} {P} test is = record {
     takes = λ k ts. (form_many_from test is.form (length ts)).takes k ts;
     lifts = λ k ts. (form_many_from test is.form (length ts)).lifts k ts;
     begins = λ k ts. (form_many_from test is.form (length ts)).begins k ts;
+    opens = λ ts. (form_many_from test is.form (length ts)).opens ts;
     least = ([], λ k rest fit. record { us = rest; spelled = refl; fit = fit });
     same = λ front t a b x g h. let n = length (front ++ t ∷ a) + length (front ++ t ∷ b) in
       many_fuel test item is.shrinks (length (front ++ t ∷ b)) n (front ++ t ∷ b) (omega arith) (omega arith)
@@ -139,6 +140,7 @@ form_end = record {
     takes = λ k. took;
     lifts = λ k ts x rest h stop more s. record { us = more; spelled = refl; shares = subst (λ l. Shares l stop more) (sym (took ts x rest h)) s };
     begins = λ k ts s h. (tt, λ rest fit. record { us = rest; spelled = refl; shares = subst (λ l. Shares ts l rest) (stopped k ts s h) (none_yet ts rest fit) });
+    opens = never;
     least = (tt, λ k rest fit. record { us = rest; spelled = refl; fit = fit });
     same = same_end;
     fails = fails_end
@@ -155,6 +157,10 @@ form_end = record {
     stopped : (k : Bool) (ts : Tokens) (s : Stop) → end ts ≡ Err s → ts ≡ past k s
     stopped k [] s h = absurd cc
     stopped k (t ∷ ts) (j, r) h = let e = same_err false j (t ∷ ts) r h in at k (t ∷ ts) ∙ ap (λ (b : Bool). past k (b, t ∷ ts)) e.0 ∙ ap (λ (l : Tokens). past k (j, l)) e.1
+
+    never : (ts : Tokens) → end ts ≡ Err (true, []) → ⊥
+    never [] h = cc
+    never (t ∷ ts) h = let e = (same_err false true (t ∷ ts) [] h).0 in cc
 
     same_end : (front : Tokens) (t : Token) (a b : Tokens) (x : Unit {0}) (g : Tokens) → end (front ++ t ∷ a) ≡ Ok (x, g ++ t ∷ a) → end (front ++ t ∷ b) ≡ Ok (x, g ++ t ∷ b)
     same_end [] t a b x g h = absurd cc

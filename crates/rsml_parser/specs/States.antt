@@ -110,7 +110,7 @@ body room = body_of (children room)
 abbrev pub opens_declaration : Token → Bool
 opens_declaration t = not (is_the_word words.State t)
 
--- a specification and no more tokens, in whose top state at most so many states may be nested
+-- in the top state at most so many states may be nested
 unfoldable pub specification : ℕ → Reading Spec
 specification room = do
   word words.Specification
@@ -120,5 +120,11 @@ specification room = do
   word words.State
   top ← name
   b ← body room
-  end
   pure (record { name = n; decls = ds; top = top; body = b })
+
+-- a specification is all of the tokens
+unfoldable pub whole : ℕ → Reading Spec
+whole room = do
+  s ← specification room
+  end
+  pure s
