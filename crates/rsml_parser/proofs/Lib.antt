@@ -17,3 +17,5 @@ pub mod BodyForms
 pub mod BodyAgain
 pub mod Deeper
 pub mod SpecificationForms
+pub mod PlaceLemmas
+pub mod AnswerLemmas

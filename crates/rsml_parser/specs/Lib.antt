@@ -5,3 +5,4 @@ pub mod Phrases
 pub mod Tables
 pub mod Declarations
 pub mod States
+pub mod Answers
