@@ -5,7 +5,7 @@ use Rattle.rsml_syntax.specs.declared.token.Mark.{Mark}
 use Rattle.rsml_syntax.specs.declared.token.Token.{Token}
 use Rattle.rsml_parser.specs.declared.reader.Fault.{Fault}
 use Rattle.rsml_parser.specs.declared.reader.Fault.TheVariants as faults
-use Rattle.rsml_parser.specs.Reading.{Fails, Stop, Outcome, Reading, ◌>>=◌, ◌>>◌, and_then, pure, first, sees_mark, skip, mark, many_from, many, separated}
+use Rattle.rsml_parser.specs.Reading.{Fails, Stop, Outcome, Reading, ◌>>=◌, ◌>>◌, and_then, pure, first, sees_mark, skip, mark, many_from, many, and_more, separated}
 use Rattle.rsml_parser.proofs.Outcomes.{takes_first, takes_second, then_ok, then_err}
 use Rattle.rsml_syntax.specs.Layout.{is_mark}
 
@@ -25,11 +25,14 @@ module _ {A : Type 0} (test : Token → Bool) (item : Reading A) where
   unfoldable pub going : ℕ → List A → Reading (List A)
   going n found = many_from (first test) item n >>= (λ more. pure (found ++ more))
 
-  pub starts : (n : ℕ) (found : List A) (ts : Tokens) → n ≡ length ts → found ≡ [] → going (n - 0) found ts ≡ many (first test) item ts
-  unfolding going and_then many
-  starts n found ts e f =
-      let k : n - 0 ≡ length ts = omega (arith, e) in
-      ap (λ k. going k found ts) k ∙ ap (λ l. going (length ts) l ts) f ∙ plain (many_from (first test) item (length ts) ts)
+  pub starts : (n : ℕ) (found : List A) (ts : Tokens) → n ≡ length ts → going (n - 0) found ts ≡ and_more (first test) item found ts
+  unfolding going and_more many
+  starts n found ts e = let k : n - 0 ≡ length ts = omega (arith, e) in ap (λ k. going k found ts) k
+
+  -- where none is found before
+  pub none_found : (found : List A) (ts : Tokens) → found ≡ [] → and_more (first test) item found ts ≡ many (first test) item ts
+  unfolding and_more and_then
+  none_found found ts e = ap (λ found. and_more (first test) item found ts) e ∙ plain (many (first test) item ts)
     where
       plain : (o : Outcome (List A)) → and_then o (λ more. pure ([] ++ more)) ≡ o
       plain (Ok p) = refl

@@ -57,19 +57,17 @@ pub form_simple : Reads simple put.simple simple_has_items
 unfolding simple
 form_simple = form_if form_path (form_if form_of_macro (form_if form_of_function form_comparison))
 
-form_quantified : (quantifier : Word) (make : Name → Amount → Simple → Phrase) →
-    ((v : Name) (b : Amount) (s : Simple) (rest : Tokens) → put.quantified quantifier v b s rest ≡ put.phrase (make v b s) rest) → ((v : Name) (b : Amount) (s : Simple) → simple_has_items s ≡ phrase_has_items (make v b s)) →
-    Reads (quantified quantifier make) put.phrase phrase_has_items
+form_quantified : Reads quantified (λ q rest. put.name q.0 (put.word words.Of (put.amount q.1 (put.mark marks.Colon (put.simple q.2 rest))))) (λ q. simple_has_items q.2)
 unfolding quantified
-form_quantified quantifier make writes good = form_as
-    (form_bind (form_word quantifier) (λ _. form_bind form_name (λ v. form_bind (form_word words.Of) (λ _. form_bind form_amount (λ b. form_bind (form_mark marks.Colon) (λ _. form_bind form_simple (λ s. form_pure (make v b s))))))))
-    (λ k x rest us s. let v = s.later in let b = v.later.later in let p = b.later.later in
-      rw (s.before, v.before, v.later.before, b.before, b.later.before, p.before.0, p.later.1, p.later.0) (writes v.got b.got p.got rest, sym (good v.got b.got p.got) ∙ p.before.1))
+form_quantified = form_as
+    (form_bind form_name (λ v. form_bind (form_word words.Of) (λ _. form_bind form_amount (λ b. form_bind (form_mark marks.Colon) (λ _. form_bind form_simple (λ s. form_pure (v, b, s)))))))
+    (λ k x rest us s. let b = s.later.later in let p = b.later.later in
+      rw (s.before, s.later.before, b.before, b.later.before, p.before.0, p.later.1, p.later.0) (refl, p.before.1))
 
 pub form_phrase : Reads phrase put.phrase phrase_has_items
 unfolding phrase
-form_phrase = form_if (form_quantified words.Any phrases.Any (λ v b s rest. refl) (λ v b s. refl))
-    (form_if (form_quantified words.Every phrases.Every (λ v b s rest. refl) (λ v b s. refl))
+form_phrase = form_if (form_as (form_bind (form_bind (form_word words.Any) (λ _. form_quantified)) (λ q. form_pure (phrases.Any q.0 q.1 q.2))) (λ k x rest us s. rw (s.before.before, s.before.later.0, s.later.1, s.later.0) (refl, s.before.later.1)))
+    (form_if (form_as (form_bind (form_bind (form_word words.Every) (λ _. form_quantified)) (λ q. form_pure (phrases.Every q.0 q.1 q.2))) (λ k x rest us s. rw (s.before.before, s.before.later.0, s.later.1, s.later.0) (refl, s.before.later.1)))
     (form_as (form_bind form_simple (λ s. form_pure (phrases.Plain s))) (λ k x rest us s. rw (s.before.0, s.later.1, s.later.0) (refl, s.before.1))))
 
 -- What is spelled is read again: a phrase stands before a bar.

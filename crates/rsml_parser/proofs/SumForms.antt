@@ -16,7 +16,7 @@ use Rattle.rsml_syntax.specs.declared.syntax.Relation.TheVariants as relations
 use Rattle.rsml_syntax.specs.declared.syntax.Sum.{Sum}
 use Rattle.rsml_syntax.specs.declared.syntax.Term.{Term}
 use Rattle.rsml_parser.specs.Mentions.{minus, mention}
-use Rattle.rsml_parser.specs.Reading.{Reading, ◌>>=◌, and_then, pure, first, sees_mark, word, mark, name, number, many}
+use Rattle.rsml_parser.specs.Reading.{Reading, ◌>>=◌, and_then, pure, first, sees_mark, word, mark, name, number, many, and_more}
 use Rattle.rsml_parser.specs.Sums.{operand, first_term, is_sign, sign, later_term, sum, relation}
 use Rattle.rsml_parser.proofs.Outcomes.{then_ok}
 use Rattle.rsml_parser.proofs.Forms.{form_bind, form_pure, form_as, form_if}
@@ -87,9 +87,9 @@ no_bracket t rest = at t.minus
     at false = refl
 
 pub form_sum : Reads sum put.sum sum_has_items
-unfolding sum
-form_sum = form_as (form_bind form_first_term (λ t. form_bind (reads_many is_sign (any_item item_later_term)) (λ ts. form_pure (record { terms = t ∷ ts }))))
-    (λ k x rest us s. rw (s.before, s.later.before.0, s.later.later.1, s.later.later.0) (refl, refl))
+unfolding sum and_more
+form_sum = form_as (form_bind form_first_term (λ t. form_bind (form_bind (reads_many is_sign (any_item item_later_term)) (λ ts. form_pure (t ∷ ts))) (λ ts. form_pure (record { terms = ts }))))
+    (λ k x rest us s. let l = s.later.before in rw (s.before, l.before.0, l.later.1, s.later.later.1, s.later.later.0, l.later.0) (refl, refl))
 
 pub form_relation : Writes relation put.relation
 unfolding relation
@@ -114,17 +114,17 @@ pub record Ends (rest : Tokens) : Type 0 where
   pub sign : first is_sign rest ≡ false
 
 pub sum_again : (s : Sum) (rest : Tokens) → IsTrue (sum_has_items s) → Ends rest → sum (put.sum s rest) ≡ Ok (s, rest)
-unfolding sum
+unfolding sum and_more
 sum_again s rest good free = at s.terms good
   where
     at : (ts : List Term) → IsTrue (sum_has_items (record { terms = ts })) → sum (put.terms ts rest) ≡ Ok ((let s : Sum = record { terms = ts } in s), rest)
     at [] good = absurd cc
     at (t ∷ ts) good =
         let more = put.each put.later_term ts rest in
-        then_ok (first_term (put.first_term t more)) (λ t. many (first is_sign) later_term >>= (λ ts. pure (record { terms = t ∷ ts }))) t more (first_term_again t more (after ts))
-        ∙ then_ok (many (first is_sign) later_term more) (λ ts. pure (record { terms = t ∷ ts })) ts rest
-          (many_again is_sign later_term put.later_term any (λ r. sees_mark marks.OpenBracket r ≡ false) (λ t r good free. later_term_again t r free) (λ t r good. starts_with_sign t r) (λ t r good. no_bracket t r)
-            item_later_term.shrinks ts rest (all_any ts) free.bracket free.sign)
+        then_ok (first_term (put.first_term t more)) (λ t. and_more (first is_sign) later_term (t ∷ []) >>= (λ ts. pure (record { terms = ts }))) t more (first_term_again t more (after ts))
+        ∙ then_ok (and_more (first is_sign) later_term (t ∷ []) more) (λ ts. pure (record { terms = ts })) (t ∷ ts) rest
+          (then_ok (many (first is_sign) later_term more) (λ ts. pure (t ∷ ts)) ts rest (many_again is_sign later_term put.later_term any (λ r. sees_mark marks.OpenBracket r ≡ false) (λ t r good free. later_term_again t r free) (λ t r good. starts_with_sign t r) (λ t r good. no_bracket t r)
+            item_later_term.shrinks ts rest (all_any ts) free.bracket free.sign))
       where
         after : (ts : List Term) → sees_mark marks.OpenBracket (put.each put.later_term ts rest) ≡ false
         after [] = free.bracket

@@ -8,7 +8,6 @@ use Rattle.rsml_syntax.specs.declared.syntax.Phrase.{Phrase}
 use Rattle.rsml_syntax.specs.declared.syntax.Phrase.TheVariants as phrases
 use Rattle.rsml_syntax.specs.declared.syntax.Simple.{Simple}
 use Rattle.rsml_syntax.specs.declared.syntax.Simple.TheVariants as simples
-use Rattle.rsml_syntax.specs.declared.token.Word.{Word}
 use Rattle.rsml_parser.specs.Mentions.{amount, mention}
 use Rattle.rsml_parser.specs.Sums.{sum, relation}
 use Rattle.rsml_parser.specs.Reading.{Reading, ◌>>=◌, ◌>>◌, pure, choose, sees_word, word, mark, name, separated}
@@ -37,16 +36,17 @@ comparison = do
 unfoldable pub simple : Reading Simple
 simple = choose (sees_word words.In) path (choose (sees_word words.Macro) of_macro (choose (sees_word words.Function) of_function comparison))
 
-unfoldable pub quantified : Word → (Name → Amount → Simple → Phrase) → Reading Phrase
-quantified quantifier make = do
-  word quantifier
+-- the variable, the bound and the body, after the quantifier
+unfoldable pub quantified : Reading (Name × Amount × Simple)
+quantified = do
   v ← name
   word words.Of
   b ← amount
   mark marks.Colon
   s ← simple
-  pure (make v b s)
+  pure (v, b, s)
 
 unfoldable pub phrase : Reading Phrase
-phrase = choose (sees_word words.Any) (quantified words.Any phrases.Any) (choose (sees_word words.Every) (quantified words.Every phrases.Every)
+phrase = choose (sees_word words.Any) (word words.Any >> quantified >>= (λ q. pure (phrases.Any q.0 q.1 q.2)))
+    (choose (sees_word words.Every) (word words.Every >> quantified >>= (λ q. pure (phrases.Every q.0 q.1 q.2)))
     (simple >>= (λ s. pure (phrases.Plain s))))

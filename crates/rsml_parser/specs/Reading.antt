@@ -1,5 +1,5 @@
 -- What reading tokens gives: what was read and the tokens that are left, or the fault and the tokens that are left there.
-use Rattle.std.specs.Prelude.{◌≡◌, ℕ, zero, suc, Bool, true, false, not, if◌then◌else◌, List, [], ◌∷◌, length, Option, Some, None, Result, Ok, Err, ⊤}
+use Rattle.std.specs.Prelude.{◌≡◌, ℕ, zero, suc, Bool, true, false, not, if◌then◌else◌, List, [], ◌∷◌, ◌++◌, length, Option, Some, None, Result, Ok, Err, ⊤}
 use Rattle.rsml_syntax.specs.Layout.{is_mark, is_the_word, is_a_name}
 use Rattle.rsml_syntax.specs.Tokens.{Tokens}
 use Rattle.rsml_syntax.specs.declared.token.Mark.{Mark}
@@ -116,6 +116,10 @@ many_from begins item (suc n) = choose begins (item >>= (λ x. many_from begins 
 -- items while one begins
 unfoldable pub many : {A : Type 0} → (Tokens → Bool) → Reading A → Reading (List A)
 many begins item = λ ts. many_from begins item (length ts) ts
+
+-- the items that are found, and others while one begins
+unfoldable pub and_more : {A : Type 0} → (Tokens → Bool) → Reading A → List A → Reading (List A)
+and_more begins item found = many begins item >>= (λ more. pure (found ++ more))
 
 -- an item, and others while the mark stands between
 unfoldable pub separated : {A : Type 0} → Mark → Reading A → Reading (List A)

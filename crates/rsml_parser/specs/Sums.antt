@@ -1,5 +1,5 @@
 -- Reading sums and relations.
-use Rattle.std.specs.Prelude.{Bool, true, false, ◌||◌, List, ◌∷◌}
+use Rattle.std.specs.Prelude.{Bool, true, false, ◌||◌, List, [], ◌∷◌}
 use Rattle.rsml_syntax.specs.Layout.{is_mark}
 use Rattle.rsml_syntax.specs.declared.token.Mark.TheVariants as marks
 use Rattle.rsml_syntax.specs.declared.token.Token.{Token}
@@ -11,7 +11,7 @@ use Rattle.rsml_syntax.specs.declared.syntax.Relation.TheVariants as relations
 use Rattle.rsml_syntax.specs.declared.syntax.Sum.{Sum}
 use Rattle.rsml_syntax.specs.declared.syntax.Term.{Term}
 use Rattle.rsml_parser.specs.Mentions.{minus, mention}
-use Rattle.rsml_parser.specs.Reading.{Reading, ◌>>=◌, ◌>>◌, pure, choose, first, sees_mark, sees_number, sees_word, word, mark, number, many}
+use Rattle.rsml_parser.specs.Reading.{Reading, ◌>>=◌, ◌>>◌, pure, choose, first, sees_mark, sees_number, sees_word, word, mark, number, and_more}
 
 unfoldable pub operand : Reading Operand
 operand = choose sees_number (number >>= (λ n. pure (operands.Number n)))
@@ -39,8 +39,8 @@ later_term = do
 unfoldable pub sum : Reading Sum
 sum = do
   t ← first_term
-  ts ← many (first is_sign) later_term
-  pure (record { terms = t ∷ ts })
+  ts ← and_more (first is_sign) later_term (t ∷ [])
+  pure (record { terms = ts })
 
 unfoldable pub relation : Reading Relation
 relation = choose (sees_mark marks.Equal) (mark marks.Equal >> pure relations.Equal)

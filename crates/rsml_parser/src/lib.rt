@@ -3,6 +3,9 @@
 
 mod error;
 mod list;
+mod mentions;
+mod phrases;
 mod reader;
+mod sums;
 
 pub use error::ParseError;

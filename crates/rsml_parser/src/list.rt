@@ -1,4 +1,4 @@
-ghost use Rattle.std.specs.Prelude.{◌≡◌};
+ghost use Rattle.std.specs.Prelude.{◌≡◌, [], ◌∷◌};
 ghost use Rattle.rsml_parser.specs.Reading as spec;
 ghost use Rattle.rsml_parser.specs.Reading.{Gives};
 
@@ -28,11 +28,14 @@ pub trait Listed: Item {
         ensures { result ≡ spec.first begins reader.now };
 }
 
-/// The items that follow each other.
-pub fn many<T: Listed>(alloc: Global, reader: &mut Reader<'_>) -> Result<List<T>, Fault>
-    ensures { Gives (spec.many (spec.first T.begins) T.reading reader.old) result reader.new }
+/// The items that are found, and those that follow.
+fn and_more<T: Listed>(
+    alloc: Global,
+    reader: &mut Reader<'_>,
+    mut found: List<T>,
+) -> Result<List<T>, Fault>
+    ensures { Gives (spec.and_more (spec.first T.begins) T.reading found reader.old) result reader.new }
 {
-    let mut found = List::new(alloc);
     for _turn in 0..reader.left() {
         if !T::begins(reader) {
             break;
@@ -43,6 +46,26 @@ pub fn many<T: Listed>(alloc: Global, reader: &mut Reader<'_>) -> Result<List<T>
         }
     }
     Ok(found)
+}
+
+/// The items that follow.
+pub fn many<T: Listed>(alloc: Global, reader: &mut Reader<'_>) -> Result<List<T>, Fault>
+    ensures { Gives (spec.many (spec.first T.begins) T.reading reader.old) result reader.new }
+{
+    and_more(alloc, reader, List::new(alloc))
+}
+
+/// An item that was read, and those that follow.
+pub fn many_after<T: Listed>(
+    alloc: Global,
+    reader: &mut Reader<'_>,
+    first: T,
+) -> Result<List<T>, Fault>
+    ensures { Gives (spec.and_more (spec.first T.begins) T.reading (first ∷ []) reader.old) result reader.new }
+{
+    let mut found = List::new(alloc);
+    found.push(first)?;
+    and_more(alloc, reader, found)
 }
 
 /// An item, and others while the mark stands between.
