@@ -19,3 +19,4 @@ pub mod Deeper
 pub mod SpecificationForms
 pub mod PlaceLemmas
 pub mod AnswerLemmas
+pub mod CodeLemmas

@@ -8,6 +8,7 @@ mod list;
 mod mentions;
 mod phrases;
 mod reader;
+mod specification;
 mod states;
 mod sums;
 mod tables;

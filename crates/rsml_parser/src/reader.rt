@@ -169,6 +169,18 @@ impl<'a> Reader<'a> {
         }
     }
 
+    /// Ok where no token is left.
+    #[tactic(auto, unfolding(crate::specs::Reading::end))]
+    pub fn end(&self) -> Result<(), Fault>
+        ensures { Gives (spec.end self.now) result self.now }
+    {
+        if self.rest.is_empty() {
+            Ok(())
+        } else {
+            Err(Fault::Syntax)
+        }
+    }
+
     fn next_name(&self) -> Option<&'a Text>
         ensures { option_copied result ≡ spec.of_first spec.name_of self.now }
     {
