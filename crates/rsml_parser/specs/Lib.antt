@@ -6,3 +6,4 @@ pub mod Tables
 pub mod Declarations
 pub mod States
 pub mod Answers
+pub mod Laws

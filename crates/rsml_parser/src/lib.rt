@@ -4,6 +4,7 @@
 mod cases;
 mod declarations;
 mod error;
+mod law;
 mod list;
 mod mentions;
 mod phrases;
@@ -14,3 +15,5 @@ mod sums;
 mod tables;
 
 pub use error::ParseError;
+pub use law::grammar_is_unambiguous;
+pub use specification::parse;

@@ -1,9 +1,13 @@
-ghost use Rattle.std.specs.Prelude.{◌≡◌, ◌≤◌, length};
+ghost use Rattle.std.specs.Prelude.{◌≡◌, ℕ, ◌≤◌, length, IfOk};
 ghost use Rattle.rsml_parser.specs.Answers.{Answers, answer, place_of, room};
 ghost use Rattle.rsml_parser.specs.Reading as reading;
 ghost use Rattle.rsml_parser.specs.Reading.{Gives};
 ghost use Rattle.rsml_parser.specs.States as spec;
 ghost use Rattle.rsml_syntax.specs.Lexing.{bare};
+ghost use Rattle.rsml_syntax.specs.Places.{IsTokensOf, IsSyntaxFault, IsDepthPlace};
+ghost use Rattle.rsml_syntax.specs.Tokens.{AreTokens};
+ghost use Rattle.rsml_syntax.specs.declared.edition.Edition.TheVariants as editions;
+ghost use Rattle.rsml_syntax.specs.declared.syntax.Spec.{Spec as Tree};
 
 use crate::declarations::declaration;
 use crate::error::ParseError;
@@ -75,7 +79,7 @@ fn place(tokens: &[Placed], reader: &Reader<'_>) -> u32
 
 /// What reading all of the tokens gives, with the place of the fault.
 #[tactic(auto, using(crate::proofs::CodeLemmas::length_bare, crate::proofs::CodeLemmas::left_within))]
-pub fn placed(alloc: Global, tokens: &[Placed]) -> Result<Spec, ParseError>
+fn placed(alloc: Global, tokens: &[Placed]) -> Result<Spec, ParseError>
     requires { length tokens.now ≤ 1048576 }
     ensures { Answers result (answer (bare tokens.now) (spec.whole room (bare tokens.now))) }
 {
@@ -90,4 +94,23 @@ pub fn placed(alloc: Global, tokens: &[Placed]) -> Result<Spec, ParseError>
         }),
         Err(Fault::NoMemory) => Err(ParseError::NoMemory),
     }
+}
+
+/// The specification that the tokens are, which nests at most 16 states. Else the first fault: where tokens stop
+/// beginning a specification, unless a state opens inside 16 others before.
+pub fn parse(alloc: Global, tokens: &[Placed]) -> Result<Spec, ParseError>
+    requires few { length tokens.now ≤ 1048576 }
+    requires fit { AreTokens editions.Second (bare tokens.now) }
+    ensures ok { IfOk result (λ s. IsTokensOf (bare tokens.now) s) }
+    ensures only { (s : Tree) → IsTokensOf (bare tokens.now) s → Answers result (Ok s) }
+
+    // The fault of syntax is at this place, and is answered where there is one.
+    ensures syntax { (place : ℕ) → result ≡ Err (ParseError.Syntax place) → IsSyntaxFault (bare tokens.now) place }
+    ensures syntax_only { (place : ℕ) → IsSyntaxFault (bare tokens.now) place → Answers result (Err (ParseError.Syntax place)) }
+
+    // So is the token that opens a state too many.
+    ensures deep { (place : ℕ) → result ≡ Err (ParseError.TooDeep place) → IsDepthPlace (bare tokens.now) place }
+    ensures deep_only { (place : ℕ) → IsDepthPlace (bare tokens.now) place → Answers result (Err (ParseError.TooDeep place)) }
+{
+    placed(alloc, tokens)
 }
