@@ -2,14 +2,17 @@
 #![tactic(auto)]
 
 mod edition;
+mod laws;
 mod list;
 mod no_memory;
 mod syntax;
 mod text;
 mod token;
+mod want;
 mod world;
 
 pub use edition::Edition;
+pub use laws::refused_is_lowest;
 pub use list::List;
 pub use no_memory::NoMemory;
 pub use syntax::{
@@ -18,4 +21,5 @@ pub use syntax::{
 };
 pub use text::Text;
 pub use token::{MARKS, Mark, Placed, Token, WORDS, Word};
+pub use want::Want;
 pub use world::{Path, Step, World};
