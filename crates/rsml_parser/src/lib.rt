@@ -13,6 +13,8 @@ mod specification;
 mod states;
 mod sums;
 mod tables;
+#[cfg(test)]
+mod tests;
 
 pub use error::ParseError;
 pub use law::grammar_is_unambiguous;

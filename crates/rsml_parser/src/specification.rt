@@ -79,7 +79,7 @@ fn place(tokens: &[Placed], reader: &Reader<'_>) -> u32
 
 /// What reading all of the tokens gives, with the place of the fault.
 #[tactic(auto, using(crate::proofs::CodeLemmas::length_bare, crate::proofs::CodeLemmas::left_within))]
-fn placed(alloc: Global, tokens: &[Placed]) -> Result<Spec, ParseError>
+pub fn placed(alloc: Global, tokens: &[Placed]) -> Result<Spec, ParseError>
     requires { length tokens.now ≤ 1048576 }
     ensures { Answers result (answer (bare tokens.now) (spec.whole room (bare tokens.now))) }
 {
