@@ -152,6 +152,40 @@ fn stops_at_the_first_of_many_braces(rt: HostRuntime) -> Result<(), Fail> {
 }
 
 #[test]
+fn reads_the_least_specification(rt: HostRuntime) -> Result<(), Fail> {
+    let name = Text::new(rt.alloc(), b"_")?;
+    let top = Text::new(rt.alloc(), b"_")?;
+    let tokens = [
+        Placed {
+            token: Token::Word(Word::Specification),
+            at: 0,
+        },
+        Placed {
+            token: Token::Name(name),
+            at: 0,
+        },
+        Placed {
+            token: Token::Mark(Mark::Semicolon),
+            at: 0,
+        },
+        Placed {
+            token: Token::Word(Word::State),
+            at: 0,
+        },
+        Placed {
+            token: Token::Name(top),
+            at: 0,
+        },
+        Placed {
+            token: Token::Mark(Mark::Semicolon),
+            at: 0,
+        },
+    ];
+    assert!(rt; parse(rt.alloc(), &tokens).is_ok());
+    Ok(())
+}
+
+#[test]
 fn no_tokens_are_no_specification(rt: HostRuntime) {
     assert!(rt; matches!(parse(rt.alloc(), &[]), Err(ParseError::Syntax { token: 1 })));
 }
