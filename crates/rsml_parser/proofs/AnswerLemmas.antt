@@ -86,7 +86,7 @@ stops ts front (t ∷ a) e h = λ c.
 not_within : (ts front : Tokens) (t : Token) (a : Tokens) → ts ≡ front ++ t ∷ a → whole room ts ≡ Err (true, t ∷ a) → BeginsWithin (front ++ t ∷ []) → ⊥
 not_within ts front t a e h c =
     not_both (whole room (tokens_of c.0)) (c.0, []) (true, t ∷ c.1) (whole_again room c.0 (good_of 16 c.0 c.2 c.3))
-      (ap (whole room) (c.4 ∙ append_assoc front (t ∷ []) c.1) ∙ (form_whole room).fails front t a c.1 true [] (sym (ap (whole room) e) ∙ h))
+    (ap (whole room) (c.4 ∙ append_assoc front (t ∷ []) c.1) ∙ (form_whole room).fails front t a c.1 true [] (sym (ap (whole room) e) ∙ h))
 
 place_is : (ts front left : Tokens) → ts ≡ front ++ left → place_of ts left ≡ length front + 1
 place_is ts front left e = let n = ap length e in let m = length-append front left in omega (arith, n, m)

@@ -38,7 +38,7 @@ unfolding child plain_state array_of_states and_then word name
 child_again most inner is c rest good = at c.size
   where
     at : (size : Option Amount) → child inner (put.word (put.opening size) (put.name c.name (put.size size (put.body c.body rest))))
-      ≡ Ok ((let s : StateDecl = record { name = c.name; size = size; body = c.body } in s), rest)
+        ≡ Ok ((let s : StateDecl = record { name = c.name; size = size; body = c.body } in s), rest)
     at None = rw (is.again c.body rest good) refl
     at (Some a) = rw (bracketed_amount_again a (put.body c.body rest), is.again c.body rest good) refl
 
@@ -99,10 +99,13 @@ module _ (most : ℕ) (inner : Reading (List StateDecl)) (is : ChildrenAgain inn
   Again b = (rest : Tokens) → IsTrue (good_body (suc most) b) → body_of inner (put.body b rest) ≡ Ok (b, rest)
 
   body_of_again : BodiesAgain (body_of inner) (suc most)
-  body_of_again = record { again = λ b rest good. elim (kind b) [
-        inl e ↦ subst Again (sym e) (λ rest good. basic_again rest) rest good
+  body_of_again = record {
+    again = λ b rest good. elim (kind b) [
+      | inl e ↦ subst Again (sym e) (λ rest good. basic_again rest) rest good
       | inr (inl e) ↦ subst Again (sym e.4) (one_again e.0 e.1 e.2 e.3) rest good
-      | inr (inr e) ↦ subst Again (sym e.1) (all_again e.0) rest good ] }
+      | inr (inr e) ↦ subst Again (sym e.1) (all_again e.0) rest good
+    ];
+  }
 
 -- Children, and bodies.
 
@@ -121,8 +124,10 @@ unfolding children
 children_again zero = no_children_again
 children_again (suc room) =
     let inner = body_of_again room (children room) (children_again room) in
-    record { again = λ cs rest good free. many_again opens_state (child (body_of (children room))) put.state (good_state (suc room)) (λ _. ⊤) (λ c r is _. child_again (suc room) (body_of (children room)) inner c r is) (λ c r _. child_begins c r) (λ _ _ _. tt)
-      (shrinks_child room) cs rest good tt free }
+    record {
+      again = λ cs rest good free. many_again opens_state (child (body_of (children room))) put.state (good_state (suc room)) (λ _. ⊤) (λ c r is _. child_again (suc room) (body_of (children room)) inner c r is) (λ c r _. child_begins c r) (λ _ _ _. tt)
+          (shrinks_child room) cs rest good tt free;
+    }
 
 pub body_again : (room : ℕ) → BodiesAgain (body room) (suc room)
 unfolding body

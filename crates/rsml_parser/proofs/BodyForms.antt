@@ -48,9 +48,9 @@ item_child : (most : Bool → ℕ) (inner : Reading Body) → Bodies inner most 
 unfolding child plain_state array_of_states
 item_child most inner form =
     item_if (item_as (item_word words.Array (λ _. form_bind form_name (λ n. form_bind form_bracketed_amount (λ s. form_bind form (λ b. form_pure (record { name = n; size = Some s; body = b }))))))
-      (λ k x rest us s. let z = s.later.later in let b = z.later in rw (s.before, s.later.before, z.before, b.before.0, b.later.1, b.later.0) (refl, b.before.1)))
+    (λ k x rest us s. let z = s.later.later in let b = z.later in rw (s.before, s.later.before, z.before, b.before.0, b.later.1, b.later.0) (refl, b.before.1)))
     (item_as (item_word words.State (λ _. form_bind form_name (λ n. form_bind form (λ b. form_pure (record { name = n; size = None; body = b })))))
-      (λ k x rest us s. let b = s.later.later in rw (s.before, s.later.before, b.before.0, b.later.1, b.later.0) (refl, b.before.1)))
+    (λ k x rest us s. let b = s.later.later in rw (s.before, s.later.before, b.before.0, b.later.1, b.later.0) (refl, b.before.1)))
 
 -- A body.
 
@@ -59,13 +59,13 @@ unfolding body_of one_of all_of
 form_body_of most inner form =
     form_if (form_as (mark_for marks.Semicolon Basic).form (λ k b rest us s. rw (s.0, s.1) (refl, basic_is_good (most k))))
     (form_if (form_as (form_bind (form_word words.One) (λ _. form_bind (form_mark marks.OpenBrace) (λ _. form_bind (form_word words.Default) (λ _. form_bind form_name (λ n. form_bind (form_mark marks.Semicolon) (λ _.
-        form_bind form (λ cs. form_bind (reads_many (is_the_word words.Bus) item_bus) (λ bs. form_bind (reads_until marks.CloseBrace item_transition) (λ ts. form_pure (One n cs bs ts))))))))))
-      (λ k b rest us s. let n = s.later.later.later in let c = n.later.later in let h = c.later in let t = h.later in
-        rw (s.before, s.later.before, s.later.later.before, n.before, n.later.before, c.before.0, h.before.0, t.before.0, t.later.1, t.later.0)
-          (sym (tokens_of_one n.got c.got h.got t.got rest), one_is_good (most k) n.got c.got h.got t.got c.before.1 h.before.1 t.before.1)))
+    form_bind form (λ cs. form_bind (reads_many (is_the_word words.Bus) item_bus) (λ bs. form_bind (reads_until marks.CloseBrace item_transition) (λ ts. form_pure (One n cs bs ts))))))))))
+    (λ k b rest us s. let n = s.later.later.later in let c = n.later.later in let h = c.later in let t = h.later in
+    rw (s.before, s.later.before, s.later.later.before, n.before, n.later.before, c.before.0, h.before.0, t.before.0, t.later.1, t.later.0)
+    (sym (tokens_of_one n.got c.got h.got t.got rest), one_is_good (most k) n.got c.got h.got t.got c.before.1 h.before.1 t.before.1)))
     (form_as (form_bind (form_word words.All) (λ _. form_bind (form_mark marks.OpenBrace) (λ _. form_bind form (λ cs. (mark_for marks.CloseBrace (All cs)).form))))
-      (λ k b rest us s. let c = s.later.later in
-        rw (s.before, s.later.before, c.before.0, c.later.0, c.later.1) (sym (tokens_of_all c.got rest), all_is_good (most k) c.got c.before.1))))
+    (λ k b rest us s. let c = s.later.later in
+    rw (s.before, s.later.before, c.before.0, c.later.0, c.later.1) (sym (tokens_of_all c.got rest), all_is_good (most k) c.got c.before.1))))
 
 -- Children where no state may open.
 
@@ -80,47 +80,59 @@ opened t h = at (is_the_word words.State t) (is_the_word words.Array t) refl ref
 -- the least state that such a token opens
 least_state : (t : Token) (a : Tokens) → opens_state t ≡ true → (c : StateDecl) × ((rest : Tokens) → Fit rest → Spelled (λ cs rest us. (us ≡ put.each put.state cs rest) × IsTrue (list_all (good_state 1) cs)) (c ∷ []) rest (t ∷ a) a)
 least_state t a h = elim (opened t h) [
-      inl e ↦ (record { name = 95 ∷ []; size = None; body = Basic }, λ rest fit. record {
-        us = put.word words.State (put.name (95 ∷ []) (put.mark marks.Semicolon rest)); spelled = (refl, refl);
-        shares = record { front = t ∷ []; tail = put.name (95 ∷ []) (put.mark marks.Semicolon rest); have = refl; given = ap (λ t. t ∷ put.name (95 ∷ []) (put.mark marks.Semicolon rest)) (sym e); fit = (underscore, (refl, fit)) } })
-    | inr e ↦ (record { name = 95 ∷ []; size = Some (amounts.Number 0); body = Basic }, λ rest fit.
+  | inl e ↦ (
+    record { name = 95 ∷ []; size = None; body = Basic },
+    λ rest fit. record {
+      us = put.word words.State (put.name (95 ∷ []) (put.mark marks.Semicolon rest));
+      spelled = (refl, refl);
+      shares = record { front = t ∷ []; tail = put.name (95 ∷ []) (put.mark marks.Semicolon rest); have = refl; given = ap (λ t. t ∷ put.name (95 ∷ []) (put.mark marks.Semicolon rest)) (sym e); fit = (underscore, (refl, fit)) };
+    },
+  )
+  | inr e ↦ (
+    record { name = 95 ∷ []; size = Some (amounts.Number 0); body = Basic },
+    λ rest fit.
         let more = put.name (95 ∷ []) (put.size (Some (amounts.Number 0)) (put.mark marks.Semicolon rest)) in record {
-        us = put.word words.Array more; spelled = (refl, refl);
-        shares = record { front = t ∷ []; tail = more; have = refl; given = ap (λ t. t ∷ more) (sym e); fit = (underscore, (refl, (omega arith, (refl, (refl, fit))))) } })
-    ]
+          us = put.word words.Array more;
+          spelled = (refl, refl);
+          shares = record { front = t ∷ []; tail = more; have = refl; given = ap (λ t. t ∷ more) (sym e); fit = (underscore, (refl, (omega arith, (refl, (refl, fit))))) };
+        },
+  )
+]
 
 form_no_children : Children no_children (λ k. slack k 0)
 unfolding no_children
 form_no_children = record {
-    takes = λ k ts x rest h. let e = went ts x rest h in subst (λ (cs : List StateDecl). (ts ≡ put.each put.state cs rest) × IsTrue (list_all (good_state (slack k 0)) cs)) e.0 (e.1, refl);
-    lifts = λ k ts x rest h stop more s. let e = went ts x rest h in
+  takes = λ k ts x rest h. let e = went ts x rest h in subst (λ (cs : List StateDecl). (ts ≡ put.each put.state cs rest) × IsTrue (list_all (good_state (slack k 0)) cs)) e.0 (e.1, refl);
+  lifts = λ k ts x rest h stop more s. let e = went ts x rest h in
       record { us = more; spelled = subst (λ (cs : List StateDecl). (more ≡ put.each put.state cs more) × IsTrue (list_all (good_state (slack k 0)) cs)) e.0 (refl, refl); shares = subst (λ r. Shares r stop more) (sym e.1) s };
-    begins = begins;
-    opens = never;
-    least = ([], λ k rest fit. record { us = rest; spelled = (refl, refl); fit = fit });
-    same = λ front t a b x g h. let e = went (front ++ t ∷ a) x (g ++ t ∷ a) h in
+  begins = begins;
+  opens = never;
+  least = ([], λ k rest fit. record { us = rest; spelled = (refl, refl); fit = fit });
+  same = λ front t a b x g h. let e = went (front ++ t ∷ a) x (g ++ t ∷ a) h in
       takes_second (first opens_state (front ++ t ∷ b)) (Err (true, front ++ t ∷ b)) (Ok ([], front ++ t ∷ b)) (same_first opens_state front t b a ∙ e.2)
       ∙ ap (λ (cs : List StateDecl). Ok (cs, front ++ t ∷ b)) e.0 ∙ ap (λ (l : Tokens). Ok (x, l ++ t ∷ b)) (cancel front g (t ∷ a) e.1);
-    fails = λ front t a b k g h. let e = stood (front ++ t ∷ a) k (g ++ t ∷ a) h in
+  fails = λ front t a b k g h. let e = stood (front ++ t ∷ a) k (g ++ t ∷ a) h in
       takes_first (first opens_state (front ++ t ∷ b)) (Err (true, front ++ t ∷ b)) (Ok ([], front ++ t ∷ b)) (same_first opens_state front t b a ∙ e.2)
-      ∙ ap (λ (j : Bool). Err (j, front ++ t ∷ b)) e.0 ∙ ap (λ (l : Tokens). Err (k, l ++ t ∷ b)) (cancel front g (t ∷ a) e.1)
-  }
+      ∙ ap (λ (j : Bool). Err (j, front ++ t ∷ b)) e.0 ∙ ap (λ (l : Tokens). Err (k, l ++ t ∷ b)) (cancel front g (t ∷ a) e.1);
+}
   where
     went : (ts : Tokens) (x : List StateDecl) (rest : Tokens) → no_children ts ≡ Ok (x, rest) → ([] ≡ x) × (ts ≡ rest) × (first opens_state ts ≡ false)
     went ts x rest h = elim (chosen (first opens_state ts) (Err (true, ts)) (Ok ([], ts)) (Ok (x, rest)) h) [
-        inl e ↦ absurd (let n = e.1 in cc)
-      | inr e ↦ let n = same_ok [] x ts rest e.1 in (n.0, n.1, e.0) ]
+      | inl e ↦ absurd (let n = e.1 in cc)
+      | inr e ↦ let n = same_ok [] x ts rest e.1 in (n.0, n.1, e.0)
+    ]
 
     stood : (ts : Tokens) (k : Bool) (r : Tokens) → no_children ts ≡ Err (k, r) → (true ≡ k) × (ts ≡ r) × (first opens_state ts ≡ true)
     stood ts k r h = elim (chosen (first opens_state ts) (Err (true, ts)) (Ok ([], ts)) (Err (k, r)) h) [
-        inl e ↦ let n = same_err true k ts r e.1 in (n.0, n.1, e.0)
-      | inr e ↦ absurd (let n = e.1 in cc) ]
+      | inl e ↦ let n = same_err true k ts r e.1 in (n.0, n.1, e.0)
+      | inr e ↦ absurd (let n = e.1 in cc)
+    ]
 
     never : (ts : Tokens) → no_children ts ≡ Err (true, []) → ⊥
     never ts h = let e = stood ts true [] h in let n = sym (ap (first opens_state) e.1) ∙ e.2 in cc
 
     begins : (k : Bool) (ts : Tokens) (s : Stop) → no_children ts ≡ Err s →
-      (cs : List StateDecl) × ((rest : Tokens) → Fit rest → Spelled (λ cs rest us. (us ≡ put.each put.state cs rest) × IsTrue (list_all (good_state (slack k 0)) cs)) cs rest ts (past k s))
+        (cs : List StateDecl) × ((rest : Tokens) → Fit rest → Spelled (λ cs rest us. (us ≡ put.each put.state cs rest) × IsTrue (list_all (good_state (slack k 0)) cs)) cs rest ts (past k s))
     begins false ts (j, r) h = ([], λ rest fit. record { us = rest; spelled = (refl, refl); shares = subst (λ l. Shares ts l rest) (stood ts j r h).1 (none_yet ts rest fit) })
     begins true [] (j, r) h = absurd (let n = (stood [] j r h).2 in cc)
     begins true (t ∷ a) (j, r) h =
@@ -139,7 +151,7 @@ unfolding children
 form_children zero = form_no_children
 form_children (suc room) =
     form_as (form_list (λ k. suc (slack k room)) (child (body_of (children room))) (item_child (λ k. suc (slack k room)) (body_of (children room)) (form_body_of (λ k. slack k room) (children room) (form_children room))))
-      (λ k cs rest us s. (s.0, subst (λ n. IsTrue (list_all (good_state n) cs)) (sym (slack_suc k room)) s.1))
+    (λ k cs rest us s. (s.0, subst (λ n. IsTrue (list_all (good_state n) cs)) (sym (slack_suc k room)) s.1))
 
 pub form_body : (room : ℕ) → Bodies (body room) (λ k. suc (slack k room))
 unfolding body

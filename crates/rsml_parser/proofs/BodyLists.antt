@@ -24,9 +24,10 @@ Kind b = (b ≡ Basic) ⊎ (((n : Name) × (cs : List StateDecl) × (bs : List B
 
 pub kind : (b : Body) → Kind b
 kind b = subst Kind (roll-out-Body b) (elim (out-Body b) as (λ l. Kind (roll-Body l)) [
-      layer.Basic ↦ inl rolls-Basic
-    | layer.One n cs bs ts ↦ inr (inl (n, cs, bs, ts, rolls-One n cs bs ts))
-    | layer.All cs ↦ inr (inr (cs, rolls-All cs)) ])
+  | layer.Basic ↦ inl rolls-Basic
+  | layer.One n cs bs ts ↦ inr (inl (n, cs, bs, ts, rolls-One n cs bs ts))
+  | layer.All cs ↦ inr (inr (cs, rolls-All cs))
+])
 
 -- how many states are nested in some children at most
 abbrev pub list_depth : List StateDecl → ℕ
@@ -59,7 +60,7 @@ pub tokens_of_all : (cs : List StateDecl) (rest : Tokens) → put.body (All cs) 
 tokens_of_all cs rest =
     let row = row_of (All cs) in
     ap (λ r. put.word words.All (put.mark marks.OpenBrace r))
-      (row_tokens row.0 row.1 (put.mark marks.CloseBrace rest) ∙ ap (λ (ds : List StateDecl). put.each put.state ds (put.mark marks.CloseBrace rest)) (items_hidden-the_row-StateDecl-0 cs))
+    (row_tokens row.0 row.1 (put.mark marks.CloseBrace rest) ∙ ap (λ (ds : List StateDecl). put.each put.state ds (put.mark marks.CloseBrace rest)) (items_hidden-the_row-StateDecl-0 cs))
 
 pub tokens_of_one : (n : Name) (cs : List StateDecl) (bs : List Bus) (ts : List Transition) (rest : Tokens) → put.body (One n cs bs ts) rest ≡
     put.word words.One (put.mark marks.OpenBrace (put.word words.Default (put.name n (put.mark marks.Semicolon (put.each put.state cs (put.each put.bus bs (put.each put.transition ts (put.mark marks.CloseBrace rest))))))))
@@ -67,7 +68,7 @@ tokens_of_one n cs bs ts rest =
     let row = row_of (One n cs bs ts) in
     let more = put.each put.bus bs (put.each put.transition ts (put.mark marks.CloseBrace rest)) in
     ap (λ r. put.word words.One (put.mark marks.OpenBrace (put.word words.Default (put.name n (put.mark marks.Semicolon r)))))
-      (row_tokens row.0 row.1 more ∙ ap (λ (ds : List StateDecl). put.each put.state ds more) (items_hidden-the_row-StateDecl-0 cs))
+    (row_tokens row.0 row.1 more ∙ ap (λ (ds : List StateDecl). put.each put.state ds more) (items_hidden-the_row-StateDecl-0 cs))
 
 items_of_all : (cs : List StateDecl) → body_has_items (All cs) ≡ list_all has_its_items cs
 items_of_all cs = let row = row_of (All cs) in row_items row.0 row.1 ∙ ap (λ (ds : List StateDecl). list_all has_its_items ds) (items_hidden-the_row-StateDecl-0 cs)
@@ -106,7 +107,7 @@ each_is_good most [] items depth = refl
 each_is_good most (c ∷ cs) items depth =
     let is = halves (body_has_items c.body) (list_all has_its_items cs) items in
     both (good_state most c) (list_all (good_state most) cs) (both (body_has_items c.body) (nat_le (depth_of c.body) most) is.0 (le-leb (depth_of c.body) most (omega (arith, depth))))
-      (each_is_good most cs is.1 (omega (arith, depth)))
+    (each_is_good most cs is.1 (omega (arith, depth)))
 
 pub basic_is_good : (most : ℕ) → IsTrue (good_body (suc most) Basic)
 basic_is_good most = le-leb 1 (suc most) (omega arith)
@@ -121,8 +122,8 @@ pub one_is_good : (most : ℕ) (n : Name) (cs : List StateDecl) (bs : List Bus) 
 one_is_good most n cs bs ts h buses transitions =
     let is = all_good most cs h in let depth = is.1 in let same = depth_of_one n cs bs ts in
     both (body_has_items (One n cs bs ts)) (nat_le (depth_of (One n cs bs ts)) (suc most))
-      (items_of_one n cs bs ts ∙ both (list_all has_its_items cs) (list_all bus_has_items bs && list_all transition_has_items ts) is.0 (both (list_all bus_has_items bs) (list_all transition_has_items ts) buses transitions))
-      (le-leb (depth_of (One n cs bs ts)) (suc most) (omega (arith, same, depth)))
+    (items_of_one n cs bs ts ∙ both (list_all has_its_items cs) (list_all bus_has_items bs && list_all transition_has_items ts) is.0 (both (list_all bus_has_items bs) (list_all transition_has_items ts) buses transitions))
+    (le-leb (depth_of (One n cs bs ts)) (suc most) (omega (arith, same, depth)))
 
 -- the parts of a good body
 

@@ -47,7 +47,7 @@ case_again c rest good =
 pub case_begins : (c : Case) (rest : Tokens) → IsTrue (case_has_items c) → first (is_not marks.CloseBrace) (put.case_of c rest) ≡ true
 case_begins c rest good =
     sum_begins (is_not marks.CloseBrace) true (record { minus = refl; number = λ n. refl; name = λ n. refl; previous = refl }) c.value (put.when_guard c.guard (put.mark marks.Semicolon rest))
-      (halves (sum_has_items c.value) (guard_has_items c.guard) good).0
+    (halves (sum_has_items c.value) (guard_has_items c.guard) good).0
 
 -- Sends.
 
@@ -77,14 +77,14 @@ unfolding answer and_then word
 answer_again answers.Quiet rest good = refl
 answer_again (answers.Values vs) rest good =
     then_ok (in_parentheses value (in_parens put.value vs rest)) (λ vs. pure (answers.Values vs)) vs rest
-      (in_parentheses_again value put.value value_has_items Ends value_again value_begins (λ _. record { bracket = refl; sign = refl }) (λ _. record { bracket = refl; sign = refl })
-        (item_mark marks.Comma (λ _. form_value)).shrinks vs rest good)
+    (in_parentheses_again value put.value value_has_items Ends value_again value_begins (λ _. record { bracket = refl; sign = refl }) (λ _. record { bracket = refl; sign = refl })
+    (item_mark marks.Comma (λ _. form_value)).shrinks vs rest good)
 
 pub item_send_case : ReadsItem send_case put.send_case send_case_has_items
 unfolding send_case
 item_send_case = item_as (item_word words.On (λ _. form_bind form_mention (λ m. form_bind form_when_guard (λ g. form_bind form_answer (λ a. (mark_for marks.Semicolon (record { trigger = m; guard = g; answer = a })).form)))))
     (λ k x rest us s. let g = s.later.later in let a = g.later in
-      rw (s.before, s.later.before, g.before.0, a.before.0, a.later.0, a.later.1) (refl, both (guard_has_items g.got) (answer_has_items a.got) g.before.1 a.before.1))
+    rw (s.before, s.later.before, g.before.0, a.before.0, a.later.0, a.later.1) (refl, both (guard_has_items g.got) (answer_has_items a.got) g.before.1 a.before.1))
 
 pub send_case_again : (c : SendCase) (rest : Tokens) → IsTrue (send_case_has_items c) → send_case (put.send_case c rest) ≡ Ok (c, rest)
 unfolding send_case and_then word mark

@@ -84,9 +84,9 @@ constant_again n v rest = rw (signed_again v (put.mark marks.Semicolon rest)) re
 item_input : Declares input
 unfolding input
 item_input = item_as (item_word words.Input (λ _. form_bind form_name (λ n. form_bind form_size (λ s. form_bind (form_mark marks.Colon) (λ _. form_bind form_name (λ t. form_bind (form_mark marks.Equal) (λ _.
-      form_bind form_initial (λ i. (mark_for marks.Semicolon (decls.Input n s t i)).form))))))))
+    form_bind form_initial (λ i. (mark_for marks.Semicolon (decls.Input n s t i)).form))))))))
     (λ k x rest us s. let z = s.later.later in let t = z.later.later in let i = t.later.later in
-      rw (s.before, s.later.before, z.before, z.later.before, t.before, t.later.before, i.before, i.later.0, i.later.1) (refl, refl))
+    rw (s.before, s.later.before, z.before, z.later.before, t.before, t.later.before, i.before, i.later.0, i.later.1) (refl, refl))
 
 input_again : (n : Name) (s : Option Amount) (t : Name) (i : Initial) (rest : Tokens) → input (put.declaration (decls.Input n s t i) rest) ≡ Ok (decls.Input n s t i, rest)
 unfolding input and_then word mark name
@@ -115,7 +115,7 @@ macro_again n s rows rest good = rw (size_again s (put.table rows rest) refl, ta
 item_function : Declares function
 unfolding function
 item_function = item_as (item_word words.Function (λ _. form_bind form_name (λ n. form_bind form_size (λ s. form_bind (form_mark marks.OpenBrace) (λ _. form_bind (reads_until marks.CloseBrace item_case) (λ cs.
-      form_pure (decls.Function n s cs)))))))
+    form_pure (decls.Function n s cs)))))))
     (λ k x rest us s. let z = s.later.later in let c = z.later.later in rw (s.before, s.later.before, z.before, z.later.before, c.before.0, c.later.1, c.later.0) (refl, c.before.1))
 
 cases_again : (cs : List Case) (rest : Tokens) → IsTrue (list_all case_has_items cs) → until marks.CloseBrace case_of (put.each put.case_of cs (put.mark marks.CloseBrace rest)) ≡ Ok (cs, rest)
@@ -128,9 +128,9 @@ function_again n s cs rest good = rw (size_again s (put.mark marks.OpenBrace (pu
 item_receive : Declares receive
 unfolding receive
 item_receive = item_as (item_word words.Receive (λ _. form_bind form_name (λ n. form_bind form_size (λ s. form_bind (reads_in_parentheses (reads_any form_mention)) (λ ms. form_bind (form_word words.Raise) (λ _.
-      form_bind form_mention (λ m. (mark_for marks.Semicolon (decls.Receive n s ms m)).form)))))))
+    form_bind form_mention (λ m. (mark_for marks.Semicolon (decls.Receive n s ms m)).form)))))))
     (λ k x rest us s. let z = s.later.later in let i = z.later in let m = i.later.later in
-      rw (s.before, s.later.before, z.before, i.before.0, i.later.before, m.before, m.later.0, m.later.1) (refl, refl))
+    rw (s.before, s.later.before, z.before, i.before.0, i.later.before, m.before, m.later.0, m.later.1) (refl, refl))
 
 receive_again : (n : Name) (s : Option Amount) (ms : List Mention) (m : Mention) (rest : Tokens) → receive (put.declaration (decls.Receive n s ms m) rest) ≡ Ok (decls.Receive n s ms m, rest)
 unfolding receive and_then word mark name
@@ -141,9 +141,9 @@ receive_again n s ms m rest =
 item_send : Declares send
 unfolding send
 item_send = item_as (item_word words.Send (λ _. form_bind form_name (λ n. form_bind form_size (λ s. form_bind (reads_in_parentheses (reads_any form_name)) (λ fs. form_bind (form_mark marks.OpenBrace) (λ _.
-      form_bind (reads_until marks.CloseBrace item_send_case) (λ cs. form_pure (decls.Send n s fs cs))))))))
+    form_bind (reads_until marks.CloseBrace item_send_case) (λ cs. form_pure (decls.Send n s fs cs))))))))
     (λ k x rest us s. let z = s.later.later in let f = z.later in let c = f.later.later in
-      rw (s.before, s.later.before, z.before, f.before.0, f.later.before, c.before.0, c.later.1, c.later.0) (refl, c.before.1))
+    rw (s.before, s.later.before, z.before, f.before.0, f.later.before, c.before.0, c.later.1, c.later.0) (refl, c.before.1))
 
 send_cases_again : (cs : List SendCase) (rest : Tokens) → IsTrue (list_all send_case_has_items cs) → until marks.CloseBrace send_case (put.each put.send_case cs (put.mark marks.CloseBrace rest)) ≡ Ok (cs, rest)
 send_cases_again cs rest good = until_again marks.CloseBrace send_case put.send_case send_case_has_items (λ _. ⊤) (λ c r is _. send_case_again c r is) (λ c r is. refl) (λ _ _ _. tt) (λ _. tt) item_send_case.shrinks cs rest good

@@ -37,16 +37,25 @@ found_err None ts k r h = let e = same_err false k ts r h in (refl, e.0, e.1)
 pub form_looked : {A : Type 0} (see : Token → Option A) (spell : A → Token) (any : A) → IsToken editions.Second (spell any) →
     ((t : Token) (x : A) → see t ≡ Some x → t ≡ spell x) → Form (looked see) (λ _ x rest us. us ≡ spell x ∷ rest)
 form_looked {A} see spell any fits sees = record {
-    takes = λ k. took;
-    lifts = λ k ts x rest h stop more s. record { us = spell x ∷ more; spelled = refl;
-      shares = subst (λ l. Shares l stop (spell x ∷ more)) (sym (took ts x rest h)) (one_more (spell x) rest stop more s) };
-    begins = λ k ts s h. (any, λ rest fit. record { us = spell any ∷ rest; spelled = refl;
-      shares = subst (λ l. Shares ts l (spell any ∷ rest)) (stopped k ts s h) (none_yet ts (spell any ∷ rest) (fits, fit)) });
-    opens = λ ts h. absurd (let e = (found_err (of_first see ts) ts true [] h).1 in cc);
-    least = (any, λ k rest fit. record { us = spell any ∷ rest; spelled = refl; fit = (fits, fit) });
-    same = same_looked;
-    fails = fails_looked
-  }
+  takes = λ k. took;
+  lifts = λ k ts x rest h stop more s. record {
+    us = spell x ∷ more;
+    spelled = refl;
+    shares = subst (λ l. Shares l stop (spell x ∷ more)) (sym (took ts x rest h)) (one_more (spell x) rest stop more s);
+  };
+  begins = λ k ts s h. (
+    any,
+    λ rest fit. record {
+      us = spell any ∷ rest;
+      spelled = refl;
+      shares = subst (λ l. Shares ts l (spell any ∷ rest)) (stopped k ts s h) (none_yet ts (spell any ∷ rest) (fits, fit));
+    },
+  );
+  opens = λ ts h. absurd (let e = (found_err (of_first see ts) ts true [] h).1 in cc);
+  least = (any, λ k rest fit. record { us = spell any ∷ rest; spelled = refl; fit = (fits, fit) });
+  same = same_looked;
+  fails = fails_looked;
+}
   where
     took : (ts : Tokens) (x : A) (rest : Tokens) → looked see ts ≡ Ok (x, rest) → ts ≡ spell x ∷ rest
     took [] x rest h = absurd cc
@@ -62,13 +71,13 @@ form_looked {A} see spell any fits sees = record {
     same_looked : (front : Tokens) (t : Token) (a b : Tokens) (x : A) (g : Tokens) → looked see (front ++ t ∷ a) ≡ Ok (x, g ++ t ∷ a) → looked see (front ++ t ∷ b) ≡ Ok (x, g ++ t ∷ b)
     same_looked [] t a b x g h = let e = found_ok (see t) (t ∷ a) x (g ++ t ∷ a) h in let n = ap length e.1 in let l = length-append g (t ∷ a) in absurd (omega (arith, n, l))
     same_looked (u ∷ us) t a b x g h = let e = found_ok (see u) (u ∷ us ++ t ∷ a) x (g ++ t ∷ a) h in
-      ap (λ o. found o (u ∷ us ++ t ∷ b)) e.0 ∙ ap (λ (l : Tokens). Ok (x, l ++ t ∷ b)) (cancel us g (t ∷ a) e.1)
+        ap (λ o. found o (u ∷ us ++ t ∷ b)) e.0 ∙ ap (λ (l : Tokens). Ok (x, l ++ t ∷ b)) (cancel us g (t ∷ a) e.1)
 
     fails_looked : (front : Tokens) (t : Token) (a b : Tokens) (k : Bool) (g : Tokens) → looked see (front ++ t ∷ a) ≡ Err (k, g ++ t ∷ a) → looked see (front ++ t ∷ b) ≡ Err (k, g ++ t ∷ b)
     fails_looked [] t a b k g h = let e = found_err (see t) (t ∷ a) k (g ++ t ∷ a) h in
-      ap (λ o. found o (t ∷ b)) e.0 ∙ ap (λ (j : Bool). Err (j, t ∷ b)) e.1 ∙ ap (λ (l : Tokens). Err (k, l ++ t ∷ b)) (cancel [] g (t ∷ a) e.2)
+        ap (λ o. found o (t ∷ b)) e.0 ∙ ap (λ (j : Bool). Err (j, t ∷ b)) e.1 ∙ ap (λ (l : Tokens). Err (k, l ++ t ∷ b)) (cancel [] g (t ∷ a) e.2)
     fails_looked (u ∷ us) t a b k g h = let e = found_err (see u) (u ∷ us ++ t ∷ a) k (g ++ t ∷ a) h in
-      ap (λ o. found o (u ∷ us ++ t ∷ b)) e.0 ∙ ap (λ (j : Bool). Err (j, u ∷ us ++ t ∷ b)) e.1 ∙ ap (λ (l : Tokens). Err (k, l ++ t ∷ b)) (cancel (u ∷ us) g (t ∷ a) e.2)
+        ap (λ o. found o (u ∷ us ++ t ∷ b)) e.0 ∙ ap (λ (j : Bool). Err (j, u ∷ us ++ t ∷ b)) e.1 ∙ ap (λ (l : Tokens). Err (k, l ++ t ∷ b)) (cancel (u ∷ us) g (t ∷ a) e.2)
 
 -- A token that is known.
 

@@ -37,20 +37,26 @@ shrinks_mark m = record { less = less }
     less (t ∷ ts) x rest h = skips (sees_mark m (t ∷ ts)) t ts x rest h
 
 shrinks_first : {A B : Type 0} {p : Reading A} {f : A → Reading B} {Q : Bool → A → B → Tokens → Tokens → Type 0} → Shrinks p → ((x : A) → Form (f x) (λ k. Q k x)) → Shrinks (p >>= f)
-shrinks_first {A} {B} {p} {f} {Q} one two = record { less = λ ts y rest h.
-    let e = bind_ok (p ts) f (y, rest) h in
-    let l = left (two e.0.0) e.0.1 y rest e.2 in
-    let n = ap length l.1 in let m = length-append l.0 rest in let k = one.less ts e.0.0 e.0.1 e.1 in omega (arith, n, m, k) }
+shrinks_first {A} {B} {p} {f} {Q} one two = record {
+  less = λ ts y rest h.
+      let e = bind_ok (p ts) f (y, rest) h in
+      let l = left (two e.0.0) e.0.1 y rest e.2 in
+      let n = ap length l.1 in let m = length-append l.0 rest in let k = one.less ts e.0.0 e.0.1 e.1 in omega (arith, n, m, k);
+}
 
 shrinks_later : {A B : Type 0} {p : Reading A} {P : Bool → A → Tokens → Tokens → Type 0} {f : A → Reading B} → Form p P → ((x : A) → Shrinks (f x)) → Shrinks (p >>= f)
-shrinks_later {A} {B} {p} {P} {f} one two = record { less = λ ts y rest h.
-    let e = bind_ok (p ts) f (y, rest) h in
-    let l = left one ts e.0.0 e.0.1 e.1 in
-    let n = ap length l.1 in let m = length-append l.0 e.0.1 in let k = (two e.0.0).less e.0.1 y rest e.2 in omega (arith, n, m, k) }
+shrinks_later {A} {B} {p} {P} {f} one two = record {
+  less = λ ts y rest h.
+      let e = bind_ok (p ts) f (y, rest) h in
+      let l = left one ts e.0.0 e.0.1 e.1 in
+      let n = ap length l.1 in let m = length-append l.0 e.0.1 in let k = (two e.0.0).less e.0.1 y rest e.2 in omega (arith, n, m, k);
+}
 
 shrinks_if : {A : Type 0} {test : Token → Bool} {p q : Reading A} → Shrinks p → Shrinks q → Shrinks (choose (first test) p q)
-shrinks_if {A} {test} {p} {q} one two = record { less = λ ts x rest h.
-    elim (chosen (first test ts) (p ts) (q ts) (Ok (x, rest)) h) [ inl e ↦ one.less ts x rest e.1 | inr e ↦ two.less ts x rest e.1 ] }
+shrinks_if {A} {test} {p} {q} one two = record {
+  less = λ ts x rest h.
+      elim (chosen (first test ts) (p ts) (q ts) (Ok (x, rest)) h) [ inl e ↦ one.less ts x rest e.1 | inr e ↦ two.less ts x rest e.1 ];
+}
 
 -- The laws of a reading that takes a token: an item of a list.
 pub record Item {A : Type 0} (read : Reading A) (P : Bool → A → Tokens → Tokens → Type 0) : Type 0 where
@@ -94,8 +100,8 @@ unfolding many_from
 form_many_from {A} {item} {P} test form zero = no_items P
 form_many_from {A} {item} {P} test form (suc n) =
     form_if (form_as (form_bind form (λ x. form_bind (form_many_from test form n) (λ xs. form_pure (x ∷ xs)))) (λ k l rest us s.
-      let r = s.later in
-      subst (λ (l : List A). Each (P k) l rest us) (sym r.later.0) (s.mid, s.before, subst (λ m. Each (P k) r.got m s.mid) r.later.1 r.before))) (no_items P)
+    let r = s.later in
+    subst (λ (l : List A). Each (P k) l rest us) (sym r.later.0) (s.mid, s.before, subst (λ m. Each (P k) r.got m s.mid) r.later.1 r.before))) (no_items P)
 
 -- more turns than tokens change nothing
 pub many_fuel : {A : Type 0} (test : Token → Bool) (item : Reading A) → Shrinks item → (n m : ℕ) (ts : Tokens) → length ts ≤ n → length ts ≤ m → many_from (first test) item n ts ≡ many_from (first test) item m ts
@@ -119,32 +125,32 @@ many_fuel {A} test item sh (suc n) (suc m) (t ∷ ts) l k =
 pub form_many : {A : Type 0} {item : Reading A} {P : Bool → A → Tokens → Tokens → Type 0} (test : Token → Bool) → Item item P → Form (many (first test) item) (λ k. Each (P k))
 unfolding many
 form_many {A} {item} {P} test is = record {
-    takes = λ k ts. (form_many_from test is.form (length ts)).takes k ts;
-    lifts = λ k ts. (form_many_from test is.form (length ts)).lifts k ts;
-    begins = λ k ts. (form_many_from test is.form (length ts)).begins k ts;
-    opens = λ ts. (form_many_from test is.form (length ts)).opens ts;
-    least = ([], λ k rest fit. record { us = rest; spelled = refl; fit = fit });
-    same = λ front t a b x g h. let n = length (front ++ t ∷ a) + length (front ++ t ∷ b) in
+  takes = λ k ts. (form_many_from test is.form (length ts)).takes k ts;
+  lifts = λ k ts. (form_many_from test is.form (length ts)).lifts k ts;
+  begins = λ k ts. (form_many_from test is.form (length ts)).begins k ts;
+  opens = λ ts. (form_many_from test is.form (length ts)).opens ts;
+  least = ([], λ k rest fit. record { us = rest; spelled = refl; fit = fit });
+  same = λ front t a b x g h. let n = length (front ++ t ∷ a) + length (front ++ t ∷ b) in
       many_fuel test item is.shrinks (length (front ++ t ∷ b)) n (front ++ t ∷ b) (omega arith) (omega arith)
       ∙ (form_many_from test is.form n).same front t a b x g (many_fuel test item is.shrinks n (length (front ++ t ∷ a)) (front ++ t ∷ a) (omega arith) (omega arith) ∙ h);
-    fails = λ front t a b k g h. let n = length (front ++ t ∷ a) + length (front ++ t ∷ b) in
+  fails = λ front t a b k g h. let n = length (front ++ t ∷ a) + length (front ++ t ∷ b) in
       many_fuel test item is.shrinks (length (front ++ t ∷ b)) n (front ++ t ∷ b) (omega arith) (omega arith)
-      ∙ (form_many_from test is.form n).fails front t a b k g (many_fuel test item is.shrinks n (length (front ++ t ∷ a)) (front ++ t ∷ a) (omega arith) (omega arith) ∙ h)
-  }
+      ∙ (form_many_from test is.form n).fails front t a b k g (many_fuel test item is.shrinks n (length (front ++ t ∷ a)) (front ++ t ∷ a) (omega arith) (omega arith) ∙ h);
+}
 
 -- The end.
 
 pub form_end : Form end (λ _ x rest us. us ≡ rest)
 unfolding end
 form_end = record {
-    takes = λ k. took;
-    lifts = λ k ts x rest h stop more s. record { us = more; spelled = refl; shares = subst (λ l. Shares l stop more) (sym (took ts x rest h)) s };
-    begins = λ k ts s h. (tt, λ rest fit. record { us = rest; spelled = refl; shares = subst (λ l. Shares ts l rest) (stopped k ts s h) (none_yet ts rest fit) });
-    opens = never;
-    least = (tt, λ k rest fit. record { us = rest; spelled = refl; fit = fit });
-    same = same_end;
-    fails = fails_end
-  }
+  takes = λ k. took;
+  lifts = λ k ts x rest h stop more s. record { us = more; spelled = refl; shares = subst (λ l. Shares l stop more) (sym (took ts x rest h)) s };
+  begins = λ k ts s h. (tt, λ rest fit. record { us = rest; spelled = refl; shares = subst (λ l. Shares ts l rest) (stopped k ts s h) (none_yet ts rest fit) });
+  opens = never;
+  least = (tt, λ k rest fit. record { us = rest; spelled = refl; fit = fit });
+  same = same_end;
+  fails = fails_end;
+}
   where
     took : (ts : Tokens) (x : Unit {0}) (rest : Tokens) → end ts ≡ Ok (x, rest) → ts ≡ rest
     took [] x rest h = (same_ok tt x [] rest h).1
@@ -168,6 +174,6 @@ form_end = record {
 
     fails_end : (front : Tokens) (t : Token) (a b : Tokens) (k : Bool) (g : Tokens) → end (front ++ t ∷ a) ≡ Err (k, g ++ t ∷ a) → end (front ++ t ∷ b) ≡ Err (k, g ++ t ∷ b)
     fails_end [] t a b k g h = let e = same_err false k (t ∷ a) (g ++ t ∷ a) h in
-      ap (λ (j : Bool). Err (j, t ∷ b)) e.0 ∙ ap (λ (l : Tokens). Err (k, l ++ t ∷ b)) (cancel [] g (t ∷ a) e.1)
+        ap (λ (j : Bool). Err (j, t ∷ b)) e.0 ∙ ap (λ (l : Tokens). Err (k, l ++ t ∷ b)) (cancel [] g (t ∷ a) e.1)
     fails_end (u ∷ us) t a b k g h = let e = same_err false k (u ∷ us ++ t ∷ a) (g ++ t ∷ a) h in
-      ap (λ (j : Bool). Err (j, u ∷ us ++ t ∷ b)) e.0 ∙ ap (λ (l : Tokens). Err (k, l ++ t ∷ b)) (cancel (u ∷ us) g (t ∷ a) e.1)
+        ap (λ (j : Bool). Err (j, u ∷ us ++ t ∷ b)) e.0 ∙ ap (λ (l : Tokens). Err (k, l ++ t ∷ b)) (cancel (u ∷ us) g (t ∷ a) e.1)

@@ -63,13 +63,13 @@ module _ {A : Type 0} (test : Token → Bool) (item : Reading A) where
 
   -- an item was read
   pub turn : (n at : ℕ) (found : List A) (ts after : Tokens) (x : A) (y : Outcome (List A)) → at < n → first test ts ≡ true → item ts ≡ Ok (x, after) →
-    going (n - at) found ts ≡ y → going (n - (at + 1)) (found ++ x ∷ []) after ≡ y
+      going (n - at) found ts ≡ y → going (n - (at + 1)) (found ++ x ∷ []) after ≡ y
   unfolding going and_then
   turn n at found ts after x y lt b e h =
       let k : n - at ≡ suc (n - (at + 1)) = omega arith in
       let more : A → Reading (List A) = λ x. many_from (first test) item (n - (at + 1)) >>= (λ xs. pure (x ∷ xs)) in
       sym (ap (λ k. going k found ts) k ∙ ap (λ o. and_then o (λ more. pure (found ++ more))) (one (n - (at + 1)) ts b ∙ then_ok (item ts) more x after e)
-        ∙ joins (many_from (first test) item (n - (at + 1)) after)) ∙ h
+      ∙ joins (many_from (first test) item (n - (at + 1)) after)) ∙ h
     where
       joins : (o : Outcome (List A)) → and_then (and_then o (λ xs. pure (x ∷ xs))) (λ more. pure (found ++ more)) ≡ and_then o (λ more. pure ((found ++ x ∷ []) ++ more))
       joins (Ok p) = ap (λ (l : List A). Ok (l, p.1)) (sym (append_assoc found (x ∷ []) p.0))
@@ -77,7 +77,7 @@ module _ {A : Type 0} (test : Token → Bool) (item : Reading A) where
 
   -- an item failed
   pub failed : (n at : ℕ) (found : List A) (ts : Tokens) (y : Outcome (List A)) → at < n → first test ts ≡ true → (s : Stop) → item ts ≡ Err s →
-    going (n - at) found ts ≡ y → y ≡ Err s
+      going (n - at) found ts ≡ y → y ≡ Err s
   unfolding going
   failed n at found ts y lt b s e h =
       let k : n - at ≡ suc (n - (at + 1)) = omega arith in

@@ -45,13 +45,13 @@ form_of_function : Reads of_function put.simple simple_has_items
 unfolding of_function
 form_of_function = form_as (form_bind (form_word words.Function) (λ _. form_bind form_mention (λ f. form_bind form_relation (λ r. form_bind form_sum (λ s. form_pure (simples.Function f r s))))))
     (λ k x rest us s. let l = s.later.later.later in
-      rw (s.before, s.later.before, s.later.later.before, l.before.0, l.later.1, l.later.0) (refl, l.before.1))
+    rw (s.before, s.later.before, s.later.later.before, l.before.0, l.later.1, l.later.0) (refl, l.before.1))
 
 form_comparison : Reads comparison put.simple simple_has_items
 unfolding comparison
 form_comparison = form_as (form_bind form_sum (λ l. form_bind form_relation (λ r. form_bind form_sum (λ s. form_pure (simples.Compare l r s)))))
     (λ k x rest us s. let l = s.later.later in
-      rw (s.before.0, s.later.before, l.before.0, l.later.1, l.later.0) (refl, both (sum_has_items s.got) (sum_has_items l.got) s.before.1 l.before.1))
+    rw (s.before.0, s.later.before, l.before.0, l.later.1, l.later.0) (refl, both (sum_has_items s.got) (sum_has_items l.got) s.before.1 l.before.1))
 
 pub form_simple : Reads simple put.simple simple_has_items
 unfolding simple
@@ -62,7 +62,7 @@ unfolding quantified
 form_quantified = form_as
     (form_bind form_name (λ v. form_bind (form_word words.Of) (λ _. form_bind form_amount (λ b. form_bind (form_mark marks.Colon) (λ _. form_bind form_simple (λ s. form_pure (v, b, s)))))))
     (λ k x rest us s. let b = s.later.later in let p = b.later.later in
-      rw (s.before, s.later.before, b.before, b.later.before, p.before.0, p.later.1, p.later.0) (refl, p.before.1))
+    rw (s.before, s.later.before, b.before, b.later.before, p.before.0, p.later.1, p.later.0) (refl, p.before.1))
 
 pub form_phrase : Reads phrase put.phrase phrase_has_items
 unfolding phrase
@@ -91,7 +91,7 @@ path_again : (p : List Mention) (rest : Tokens) → IsTrue (has_items p) → pat
 unfolding path and_then word
 path_again p rest good =
     rw (separated_again marks.Dot mention put.mention any (λ r. sees_mark marks.OpenBracket r ≡ false) (λ m r good free. mention_again m r free) (λ r. refl)
-      (item_mark marks.Dot (λ _. form_mention)).shrinks p (bar rest) good (all_any p) refl refl) refl
+    (item_mark marks.Dot (λ _. form_mention)).shrinks p (bar rest) good (all_any p) refl refl) refl
 
 of_function_again : (f : Mention) (r : Relation) (s : Sum) (rest : Tokens) → IsTrue (sum_has_items s) → of_function (put.simple (simples.Function f r s) (bar rest)) ≡ Ok (simples.Function f r s, bar rest)
 unfolding of_function and_then word

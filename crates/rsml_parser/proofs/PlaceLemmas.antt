@@ -27,8 +27,9 @@ cut_again (t ∷ f) r [] s h = inr (t, f, refl, sym h)
 cut_again (t ∷ f) r (u ∷ g) s h =
     let heads : t ≡ u = cc in let tails : f ++ r ≡ g ++ s = cc in
     elim (cut_again f r g s tails) [
-      inl e ↦ inl (e.0, ap (λ (t : Token). t ∷ g) (sym heads) ∙ ap (λ (l : Tokens). t ∷ l) e.1, e.2)
-    | inr e ↦ inr (e.0, e.1, ap (λ (t : Token). t ∷ f) heads ∙ ap (λ (l : Tokens). u ∷ l) e.2, e.3) ]
+      | inl e ↦ inl (e.0, ap (λ (t : Token). t ∷ g) (sym heads) ∙ ap (λ (l : Tokens). t ∷ l) e.1, e.2)
+      | inr e ↦ inr (e.0, e.1, ap (λ (t : Token). t ∷ f) heads ∙ ap (λ (l : Tokens). u ∷ l) e.2, e.3)
+    ]
 
 -- a front of a front begins a specification
 begins_before : (f : Tokens) (t : Token) (m : Tokens) → Begins (f ++ t ∷ m) → Begins (f ++ t ∷ [])
@@ -47,8 +48,9 @@ one_syntax f r g s h begins stops t m e k = subst (StopsAt f) k stops (begins_be
 
 same_place : (f r g s : Tokens) → f ++ r ≡ g ++ s → Begins f → Begins g → StopsAt f r → StopsAt g s → f ≡ g
 same_place f r g s h bf bg sf sg = elim (cut_again f r g s h) [
-      inl e ↦ nothing_more e.0 e.1 e.2
-    | inr e ↦ absurd (one_syntax g s f r (sym h) bf sg e.0 e.1 e.2 e.3) ]
+  | inl e ↦ nothing_more e.0 e.1 e.2
+  | inr e ↦ absurd (one_syntax g s f r (sym h) bf sg e.0 e.1 e.2 e.3)
+]
   where
     nothing_more : (m : Tokens) → g ≡ f ++ m → r ≡ m ++ s → f ≡ g
     nothing_more [] e k = sym (e ∙ append-nil f)
@@ -59,8 +61,9 @@ one_syntax_place ts a b one two = one.3 ∙ ap (λ (f : Tokens). length f + 1) (
 
 same_depth : (f : Tokens) (t : Token) (r g : Tokens) (u : Token) (s : Tokens) → f ++ t ∷ r ≡ g ++ u ∷ s → BeginsWithin f → BeginsWithin g → (BeginsWithin (f ++ t ∷ []) → ⊥) → (BeginsWithin (g ++ u ∷ []) → ⊥) → f ≡ g
 same_depth f t r g u s h bf bg nf ng = elim (cut_again f (t ∷ r) g (u ∷ s) h) [
-      inl e ↦ nothing_more e.0 e.1 e.2
-    | inr e ↦ absurd (ng (longer g u s f t r e.0 e.1 e.2 e.3 bf)) ]
+  | inl e ↦ nothing_more e.0 e.1 e.2
+  | inr e ↦ absurd (ng (longer g u s f t r e.0 e.1 e.2 e.3 bf))
+]
   where
     longer : (f : Tokens) (t : Token) (r g : Tokens) (u : Token) (s : Tokens) (v : Token) (m : Tokens) → g ≡ f ++ v ∷ m → t ∷ r ≡ (v ∷ m) ++ u ∷ s → BeginsWithin g → BeginsWithin (f ++ t ∷ [])
     longer f t r g u s v m e k b = let heads : v ≡ t = cc in subst (λ (t : Token). BeginsWithin (f ++ t ∷ [])) heads (begins_within_before f v m (subst BeginsWithin e b))
@@ -76,8 +79,9 @@ one_depth_place ts a b one two =
 -- before a fault of syntax no state too many opens
 pub no_depth_place : (ts f r : Tokens) → ts ≡ f ++ r → BeginsWithin f → StopsAt f r → (deep : ℕ) → IsDepthPlace ts deep → ⊥
 no_depth_place ts f r h begins stops deep d = elim (cut_again f r d.0 (d.1 ∷ d.2) (sym h ∙ d.3)) [
-      inl e ↦ at e.0 e.1 e.2
-    | inr e ↦ let heads : e.0 ≡ d.1 = let k = e.3 in cc in d.7 (subst (λ (t : Token). BeginsWithin (d.0 ++ t ∷ [])) heads (begins_within_before d.0 e.0 e.1 (subst BeginsWithin e.2 begins))) ]
+  | inl e ↦ at e.0 e.1 e.2
+  | inr e ↦ let heads : e.0 ≡ d.1 = let k = e.3 in cc in d.7 (subst (λ (t : Token). BeginsWithin (d.0 ++ t ∷ [])) heads (begins_within_before d.0 e.0 e.1 (subst BeginsWithin e.2 begins)))
+]
   where
     at : (m : Tokens) → d.0 ≡ f ++ m → r ≡ m ++ d.1 ∷ d.2 → ⊥
     at [] e k = subst (StopsAt f) k stops (subst (λ (g : Tokens). Begins (g ++ d.1 ∷ [])) (e ∙ append-nil f) d.6)

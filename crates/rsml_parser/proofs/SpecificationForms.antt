@@ -42,10 +42,10 @@ form_specification : (room : ℕ) → Specifications (specification room) room
 unfolding specification
 form_specification room = form_as
     (form_bind (form_word words.Specification) (λ _. form_bind form_name (λ n. form_bind (form_mark marks.Semicolon) (λ _. form_bind (reads_many opens_declaration item_declaration) (λ ds. form_bind (form_word words.State) (λ _.
-      form_bind form_name (λ top. form_bind (form_body room) (λ b. form_pure (record { name = n; decls = ds; top = top; body = b })))))))))
+    form_bind form_name (λ top. form_bind (form_body room) (λ b. form_pure (record { name = n; decls = ds; top = top; body = b })))))))))
     (λ k x rest us s. let d = s.later.later.later in let b = d.later.later.later in
-      rw (s.before, s.later.before, s.later.later.before, d.before.0, d.later.before, d.later.later.before, b.before.0, b.later.1, b.later.0)
-        (refl, both (list_all declaration_has_items d.got) (good_body (suc (slack k room)) b.got) d.before.1 b.before.1))
+    rw (s.before, s.later.before, s.later.later.before, d.before.0, d.later.before, d.later.later.before, b.before.0, b.later.1, b.later.0)
+    (refl, both (list_all declaration_has_items d.got) (good_body (suc (slack k room)) b.got) d.before.1 b.before.1))
 
 pub form_whole : (room : ℕ) → Specifications (whole room) room
 unfolding whole

@@ -34,7 +34,6 @@ module _ {A : Type 0} (test : Token → Bool) (item : Reading A) (spell : A → 
     (again : (x : A) (rest : Tokens) → IsTrue (good x) → Free rest → item (spell x rest) ≡ Ok (x, rest))
     (start : (x : A) (rest : Tokens) → IsTrue (good x) → first test (spell x rest) ≡ true)
     (next : (x : A) (rest : Tokens) → IsTrue (good x) → Free (spell x rest)) where
-
   pub each_free : (xs : List A) (rest : Tokens) → IsTrue (list_all good xs) → Free rest → Free (put.each spell xs rest)
   each_free [] rest all free = free
   each_free (x ∷ xs) rest all free = next x (put.each spell xs rest) (halves (good x) (list_all good xs) all).0
@@ -62,19 +61,17 @@ module _ {A : Type 0} (m : Mark) (item : Reading A) (spell : A → Tokens → To
     (again : (x : A) (rest : Tokens) → IsTrue (good x) → Free rest → item (spell x rest) ≡ Ok (x, rest))
     (start : (x : A) (rest : Tokens) → IsTrue (good x) → first (is_not m) (spell x rest) ≡ true)
     (next : (x : A) (rest : Tokens) → IsTrue (good x) → Free (spell x rest)) (close : (rest : Tokens) → Free (put.mark m rest)) (shrinks : Shrinks item) where
-
   pub until_again : (xs : List A) (rest : Tokens) → IsTrue (list_all good xs) → until m item (put.each spell xs (put.mark m rest)) ≡ Ok (xs, rest)
   unfolding until
   until_again xs rest all =
       then_ok (many (first (is_not m)) item (put.each spell xs (put.mark m rest))) (λ xs. mark m >> pure xs) xs (put.mark m rest)
-        (many_again (is_not m) item spell good Free again start next shrinks xs (put.mark m rest) all (close rest) (ap not (true_same M.the_type m m refl)))
+      (many_again (is_not m) item spell good Free again start next shrinks xs (put.mark m rest) all (close rest) (ap not (true_same M.the_type m m refl)))
       ∙ then_ok (mark m (put.mark m rest)) (λ _. pure xs) tt rest (mark_again m rest)
 
 -- Items with a mark between, before which an item may stand.
 module _ {A : Type 0} (m : Mark) (item : Reading A) (spell : A → Tokens → Tokens) (good : A → Bool) (Free : Tokens → Type 0)
     (again : (x : A) (rest : Tokens) → IsTrue (good x) → Free rest → item (spell x rest) ≡ Ok (x, rest))
     (next : (rest : Tokens) → Free (put.mark m rest)) (shrinks : Shrinks (mark m >> item)) where
-
   after_again : (x : A) (rest : Tokens) → IsTrue (good x) → Free rest → (mark m >> item) (put.mark m (spell x rest)) ≡ Ok (x, rest)
   after_again x rest is free = then_ok (mark m (put.mark m (spell x rest))) (λ _. item) tt (spell x rest) (mark_again m (spell x rest)) ∙ again x rest is free
 
@@ -83,7 +80,7 @@ module _ {A : Type 0} (m : Mark) (item : Reading A) (spell : A → Tokens → To
   after_free (x ∷ xs) rest free = next (spell x (put.each_after m spell xs rest))
 
   pub separated_again : (xs : List A) (rest : Tokens) → IsTrue (has_items xs) → IsTrue (list_all good xs) → Free rest → sees_mark m rest ≡ false →
-    separated m item (put.separated m spell xs rest) ≡ Ok (xs, rest)
+      separated m item (put.separated m spell xs rest) ≡ Ok (xs, rest)
   unfolding separated
   separated_again [] rest has all free b = absurd cc
   separated_again (x ∷ xs) rest has all free b =
@@ -91,8 +88,8 @@ module _ {A : Type 0} (m : Mark) (item : Reading A) (spell : A → Tokens → To
       let ts = put.each_after m spell xs rest in
       then_ok (item (spell x ts)) (λ x. many (sees_mark m) (mark m >> item) >>= (λ xs. pure (x ∷ xs))) x ts (again x ts is.0 (after_free xs rest free))
       ∙ then_ok (many (sees_mark m) (mark m >> item) ts) (λ xs. pure (x ∷ xs)) xs rest
-        (ap (many (sees_mark m) (mark m >> item)) (sym (each_after m spell xs rest))
-        ∙ many_again (is_mark m) (mark m >> item) (λ x r. put.mark m (spell x r)) good Free after_again (λ x r is. true_same M.the_type m m refl) (λ x r is. next (spell x r)) shrinks xs rest is.1 free b)
+      (ap (many (sees_mark m) (mark m >> item)) (sym (each_after m spell xs rest))
+      ∙ many_again (is_mark m) (mark m >> item) (λ x r. put.mark m (spell x r)) good Free after_again (λ x r is. true_same M.the_type m m refl) (λ x r is. next (spell x r)) shrinks xs rest is.1 free b)
 
 -- in parentheses
 module _ {A : Type 0} (item : Reading A) (spell : A → Tokens → Tokens) (good : A → Bool) (Free : Tokens → Type 0)
@@ -100,7 +97,6 @@ module _ {A : Type 0} (item : Reading A) (spell : A → Tokens → Tokens) (good
     (start : (x : A) (rest : Tokens) → IsTrue (good x) → sees_mark marks.CloseParen (spell x rest) ≡ false)
     (comma : (rest : Tokens) → Free (put.mark marks.Comma rest)) (close : (rest : Tokens) → Free (put.mark marks.CloseParen rest))
     (shrinks : Shrinks (mark marks.Comma >> item)) where
-
   pub in_parentheses_again : (xs : List A) (rest : Tokens) → IsTrue (list_all good xs) → in_parentheses item (in_parens spell xs rest) ≡ Ok (xs, rest)
   unfolding in_parentheses and_then mark
   in_parentheses_again [] rest all = refl
@@ -109,4 +105,4 @@ module _ {A : Type 0} (item : Reading A) (spell : A → Tokens → Tokens) (good
       let is = halves (good x) (list_all good xs) all in
       takes_second (sees_mark marks.CloseParen ts) _ _ (start x (put.each_after marks.Comma spell xs (put.mark marks.CloseParen rest)) is.0)
       ∙ then_ok (separated marks.Comma item ts) (λ xs. mark marks.CloseParen >> pure xs) (x ∷ xs) (put.mark marks.CloseParen rest)
-        (separated_again marks.Comma item spell good Free again comma shrinks (x ∷ xs) (put.mark marks.CloseParen rest) refl all (close rest) refl)
+      (separated_again marks.Comma item spell good Free again comma shrinks (x ∷ xs) (put.mark marks.CloseParen rest) refl all (close rest) refl)

@@ -77,10 +77,11 @@ pub reads_separated : {A : Type 0} {item : Reading A} {spell : A → Tokens → 
 unfolding separated
 reads_separated {A} {item} {spell} {good} m form =
     form_as (form_bind form (λ x. form_bind (reads_many (is_mark m) after) (λ xs. form_pure (x ∷ xs))))
-      (λ k xs rest us s. let l = s.later in
-        subst (λ (xs : List A). (us ≡ put.separated m spell xs rest) × IsTrue (has_items xs && list_all good xs)) (sym l.later.0)
-          (s.before.0 ∙ ap (spell s.got) (l.before.0 ∙ each_after m spell l.got l.mid ∙ ap (put.each_after m spell l.got) l.later.1),
-           both (good s.got) (list_all good l.got) s.before.1 l.before.1))
+    (λ k xs rest us s. let l = s.later in
+    subst (λ (xs : List A). (us ≡ put.separated m spell xs rest) × IsTrue (has_items xs && list_all good xs)) (sym l.later.0) (
+      s.before.0 ∙ ap (spell s.got) (l.before.0 ∙ each_after m spell l.got l.mid ∙ ap (put.each_after m spell l.got) l.later.1),
+      both (good s.got) (list_all good l.got) s.before.1 l.before.1,
+    ))
   where
     after : ReadsItem (mark m >> item) (λ x r. put.mark m (spell x r)) good
     after = item_as (item_mark m (λ _. form)) (λ k x rest us s. (s.before ∙ ap (put.mark m) s.later.0, s.later.1))
@@ -90,8 +91,8 @@ pub reads_until : {A : Type 0} {item : Reading A} {spell : A → Tokens → Toke
 unfolding until
 reads_until {A} {item} {spell} {good} m is =
     form_as (form_bind (reads_many (is_not m) is) (λ xs. (mark_for m xs).form))
-      (λ k xs rest us s. subst (λ (xs : List A). (us ≡ put.each spell xs (put.mark m rest)) × IsTrue (list_all good xs)) (sym s.later.1)
-        (s.before.0 ∙ ap (put.each spell s.got) s.later.0, s.before.1))
+    (λ k xs rest us s. subst (λ (xs : List A). (us ≡ put.each spell xs (put.mark m rest)) × IsTrue (list_all good xs)) (sym s.later.1)
+    (s.before.0 ∙ ap (put.each spell s.got) s.later.0, s.before.1))
 
 -- the tokens of a list in parentheses
 abbrev pub in_parens : {A : Type 0} → (A → Tokens → Tokens) → List A → Tokens → Tokens
@@ -110,5 +111,5 @@ reads_in_parentheses {A} {item} {spell} {good} form =
 
     some : Reads (separated marks.Comma item >>= (λ xs. mark marks.CloseParen >> pure xs)) inside (list_all good)
     some = form_as (form_bind (reads_separated marks.Comma form) (λ xs. (mark_for marks.CloseParen xs).form))
-      (λ k xs rest us s. subst (λ (xs : List A). (us ≡ inside xs rest) × IsTrue (list_all good xs)) (sym s.later.1)
+        (λ k xs rest us s. subst (λ (xs : List A). (us ≡ inside xs rest) × IsTrue (list_all good xs)) (sym s.later.1)
         (s.before.0 ∙ ap (put.separated marks.Comma spell s.got) s.later.0, (halves (has_items s.got) (list_all good s.got) s.before.1).1))

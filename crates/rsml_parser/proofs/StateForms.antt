@@ -36,9 +36,9 @@ item_movement : ReadsItem movement (λ m rest. put.movement m.0 m.1 rest) (λ m.
 unfolding movement
 item_movement =
     item_if (item_as (item_word words.Move (λ _. form_bind form_name (λ source. form_bind (form_mark marks.Arrow) (λ _. form_bind (form_names marks.Dot) (λ target. form_pure (source, Some target))))))
-      (λ k x rest us s. let t = s.later.later.later in rw (s.before, s.later.before, s.later.later.before, t.before.0, t.later.1, t.later.0) (refl, t.before.1)))
+    (λ k x rest us s. let t = s.later.later.later in rw (s.before, s.later.before, s.later.later.before, t.before.0, t.later.1, t.later.0) (refl, t.before.1)))
     (item_as (item_first (item_word words.Stay (λ _. form_name)) (λ source. form_pure (source, None)))
-      (λ k x rest us s. rw (s.before.before, s.before.later, s.later.1, s.later.0) (refl, refl)))
+    (λ k x rest us s. rw (s.before.before, s.before.later, s.later.1, s.later.0) (refl, refl)))
 
 movement_again : (source : Name) (target : Option (List Name)) (rest : Tokens) → IsTrue (target_has_items target) → sees_mark marks.Dot rest ≡ false → movement (put.movement source target rest) ≡ Ok ((source, target), rest)
 unfolding movement and_then word mark
@@ -48,7 +48,7 @@ movement_again source (Some target) rest good free = rw (name_again source _, na
 form_raises : Writes raises put.raises
 unfolding raises
 form_raises = form_if (form_as (form_bind (form_word words.Raise) (λ _. reads_separated marks.Comma (reads_any form_mention)))
-      (λ k x rest us s. rw (s.before, s.later.0) (listed x rest (halves (has_items x) (list_all any x) s.later.1).0)))
+    (λ k x rest us s. rw (s.before, s.later.0) (listed x rest (halves (has_items x) (list_all any x) s.later.1).0)))
     (form_as (form_pure []) (λ k x rest us s. rw (s.1, s.0) refl))
   where
     listed : (ms : List Mention) (rest : Tokens) → IsTrue (has_items ms) → put.word words.Raise (put.separated marks.Comma put.mention ms rest) ≡ put.raises ms rest
@@ -60,14 +60,14 @@ unfolding raises and_then word
 raises_again [] rest = refl
 raises_again (m ∷ ms) rest =
     separated_again marks.Comma mention put.mention any (λ r. sees_mark marks.OpenBracket r ≡ false) (λ m r _ free. mention_again m r free) (λ _. refl) (item_mark marks.Comma (λ _. form_mention)).shrinks
-      (m ∷ ms) (put.mark marks.Semicolon rest) refl (all_any ms) refl refl
+    (m ∷ ms) (put.mark marks.Semicolon rest) refl (all_any ms) refl refl
 
 pub item_transition : ReadsItem transition put.transition transition_has_items
 unfolding transition
 item_transition = item_as (item_first item_movement (λ way. form_bind (form_word words.On) (λ _. form_bind form_mention (λ m. form_bind form_when_guard (λ g. form_bind form_raises (λ rs.
-      (mark_for marks.Semicolon (record { source = way.0; target = way.1; trigger = m; guard = g; raises = rs })).form))))))
+    (mark_for marks.Semicolon (record { source = way.0; target = way.1; trigger = m; guard = g; raises = rs })).form))))))
     (λ k x rest us s. let m = s.later.later in let g = m.later in let r = g.later in
-      rw (s.before.0, s.later.before, m.before, g.before.0, r.before, r.later.0, r.later.1) (refl, both (target_has_items s.got.1) (guard_has_items g.got) s.before.1 g.before.1))
+    rw (s.before.0, s.later.before, m.before, g.before.0, r.before, r.later.0, r.later.1) (refl, both (target_has_items s.got.1) (guard_has_items g.got) s.before.1 g.before.1))
 
 pub transition_again : (t : Transition) (rest : Tokens) → IsTrue (transition_has_items t) → transition (put.transition t rest) ≡ Ok (t, rest)
 unfolding transition and_then word mark

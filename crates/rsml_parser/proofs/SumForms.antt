@@ -31,7 +31,7 @@ unfolding operand
 form_operand =
     form_if (form_as (form_bind form_number (λ n. form_pure (operands.Number n))) (λ k x rest us s. rw (s.before, s.later.1, s.later.0) refl))
     (form_if (form_as (form_bind (form_bind (form_word words.Previous) (λ _. form_mention)) (λ m. form_pure (operands.Previous m)))
-      (λ k x rest us s. rw (s.before.before, s.before.later, s.later.1, s.later.0) refl))
+    (λ k x rest us s. rw (s.before.before, s.before.later, s.later.1, s.later.0) refl))
     (form_as (form_bind form_mention (λ m. form_pure (operands.Mention m))) (λ k x rest us s. rw (s.before, s.later.1, s.later.0) refl)))
 
 operand_again : (o : Operand) (rest : Tokens) → sees_mark marks.OpenBracket rest ≡ false → operand (put.operand o rest) ≡ Ok (o, rest)
@@ -123,8 +123,8 @@ sum_again s rest good free = at s.terms good
         let more = put.each put.later_term ts rest in
         then_ok (first_term (put.first_term t more)) (λ t. and_more (first is_sign) later_term (t ∷ []) >>= (λ ts. pure (record { terms = ts }))) t more (first_term_again t more (after ts))
         ∙ then_ok (and_more (first is_sign) later_term (t ∷ []) more) (λ ts. pure (record { terms = ts })) (t ∷ ts) rest
-          (then_ok (many (first is_sign) later_term more) (λ ts. pure (t ∷ ts)) ts rest (many_again is_sign later_term put.later_term any (λ r. sees_mark marks.OpenBracket r ≡ false) (λ t r good free. later_term_again t r free) (λ t r good. starts_with_sign t r) (λ t r good. no_bracket t r)
-            item_later_term.shrinks ts rest (all_any ts) free.bracket free.sign))
+        (then_ok (many (first is_sign) later_term more) (λ ts. pure (t ∷ ts)) ts rest (many_again is_sign later_term put.later_term any (λ r. sees_mark marks.OpenBracket r ≡ false) (λ t r good free. later_term_again t r free) (λ t r good. starts_with_sign t r) (λ t r good. no_bracket t r)
+        item_later_term.shrinks ts rest (all_any ts) free.bracket free.sign))
       where
         after : (ts : List Term) → sees_mark marks.OpenBracket (put.each put.later_term ts rest) ≡ false
         after [] = free.bracket

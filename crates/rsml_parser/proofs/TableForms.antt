@@ -60,7 +60,7 @@ pub table_again : (rows : List Row) (rest : Tokens) → IsTrue (list_all row_has
 unfolding table and_then mark
 table_again rows rest good =
     until_again marks.CloseBrace row put.row row_has_items (λ _. ⊤) (λ r more is _. row_again r more is) (λ r more is. phrase_begins r.phrase (put.mark marks.Bar (put.each put.cell r.cells (put.mark marks.Semicolon more))) is)
-      (λ _ _ _. tt) (λ _. tt) item_row.shrinks rows rest good
+    (λ _ _ _. tt) (λ _. tt) item_row.shrinks rows rest good
 
 pub form_guard : Reads guard put.guard guard_has_items
 unfolding guard

@@ -1,10 +1,10 @@
-//! Tokens as specifications.
+//! Reads tokens as specifications, or finds the place of their first fault.
 #![tactic(auto)]
 
 mod cases;
 mod declarations;
 mod error;
-mod law;
+mod laws;
 mod list;
 mod mentions;
 mod phrases;
@@ -17,5 +17,5 @@ mod tables;
 mod tests;
 
 pub use error::ParseError;
-pub use law::grammar_is_unambiguous;
+pub use laws::grammar_is_unambiguous;
 pub use specification::parse;

@@ -110,10 +110,7 @@ pub fn until<T: Listed>(
 
 /// Items in parentheses, with commas between.
 #[tactic(auto, unfolding(crate::specs::Reading::and_then, crate::specs::Reading::in_parentheses))]
-pub fn in_parentheses<T: Item>(
-    alloc: Global,
-    reader: &mut Reader<'_>,
-) -> Result<List<T>, Fault>
+pub fn in_parentheses<T: Item>(alloc: Global, reader: &mut Reader<'_>) -> Result<List<T>, Fault>
     ensures { Gives (spec.in_parentheses T.reading reader.old) result reader.new }
 {
     reader.mark(Mark::OpenParen)?;

@@ -74,10 +74,7 @@ fn simple(alloc: Global, reader: &mut Reader<'_>) -> Result<Simple, Fault>
 
 /// The variable, the bound and the body of a quantified phrase, after the quantifier.
 #[tactic(auto, unfolding(crate::specs::Reading::and_then, crate::specs::Phrases::quantified))]
-fn quantified(
-    alloc: Global,
-    reader: &mut Reader<'_>,
-) -> Result<(Text, Amount, Simple), Fault>
+fn quantified(alloc: Global, reader: &mut Reader<'_>) -> Result<(Text, Amount, Simple), Fault>
     ensures { Gives (spec.quantified reader.old) result reader.new }
 {
     let variable = reader.name(alloc)?;

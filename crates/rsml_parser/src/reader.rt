@@ -68,7 +68,7 @@ impl<'a> Reader<'a> {
                     token: Token::Word(found),
                     ..
                 },
-                ..,
+                ..
             ] => word.is(*found),
             _ => false,
         }
@@ -83,7 +83,7 @@ impl<'a> Reader<'a> {
                     token: Token::Mark(found),
                     ..
                 },
-                ..,
+                ..
             ] => mark.is(*found),
             _ => false,
         }
@@ -100,7 +100,7 @@ impl<'a> Reader<'a> {
                     token: Token::Mark(found),
                     ..
                 },
-                ..,
+                ..
             ] => !mark.is(*found),
             _ => true,
         }
@@ -115,7 +115,7 @@ impl<'a> Reader<'a> {
                     token: Token::Name(_),
                     ..
                 },
-                ..,
+                ..
             ] => true,
             _ => false,
         }
@@ -130,7 +130,7 @@ impl<'a> Reader<'a> {
                     token: Token::Number(_),
                     ..
                 },
-                ..,
+                ..
             ] => true,
             _ => false,
         }
@@ -190,7 +190,7 @@ impl<'a> Reader<'a> {
                     token: Token::Name(found),
                     ..
                 },
-                ..,
+                ..
             ] => Some(found),
             _ => None,
         }
@@ -219,7 +219,7 @@ impl<'a> Reader<'a> {
                     token: Token::Number(found),
                     ..
                 },
-                ..,
+                ..
             ] => Some(*found),
             _ => None,
         }

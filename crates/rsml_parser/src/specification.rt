@@ -79,7 +79,7 @@ fn place(tokens: &[Placed], reader: &Reader<'_>) -> u32
 
 /// What reading all of the tokens gives, with the place of the fault.
 #[tactic(auto, using(crate::proofs::CodeLemmas::length_bare, crate::proofs::CodeLemmas::left_within))]
-pub fn placed(alloc: Global, tokens: &[Placed]) -> Result<Spec, ParseError>
+pub fn read_tokens(alloc: Global, tokens: &[Placed]) -> Result<Spec, ParseError>
     requires { length tokens.now ≤ 1048576 }
     ensures { Answers result (answer (bare tokens.now) (spec.whole room (bare tokens.now))) }
 {
@@ -106,11 +106,13 @@ pub fn parse(alloc: Global, tokens: &[Placed]) -> Result<Spec, ParseError>
 
     // The fault of syntax is at this place, and is answered where there is one.
     ensures syntax { (place : ℕ) → result ≡ Err (ParseError.Syntax place) → IsSyntaxFault (bare tokens.now) place }
-    ensures syntax_only { (place : ℕ) → IsSyntaxFault (bare tokens.now) place → Answers result (Err (ParseError.Syntax place)) }
+    ensures syntax_only { (place : ℕ) → IsSyntaxFault (bare tokens.now) place
+        → Answers result (Err (ParseError.Syntax place)) }
 
     // So is the token that opens a state too many.
     ensures deep { (place : ℕ) → result ≡ Err (ParseError.TooDeep place) → IsDepthPlace (bare tokens.now) place }
-    ensures deep_only { (place : ℕ) → IsDepthPlace (bare tokens.now) place → Answers result (Err (ParseError.TooDeep place)) }
+    ensures deep_only { (place : ℕ) → IsDepthPlace (bare tokens.now) place
+        → Answers result (Err (ParseError.TooDeep place)) }
 {
-    placed(alloc, tokens)
+    read_tokens(alloc, tokens)
 }

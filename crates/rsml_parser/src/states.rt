@@ -43,10 +43,7 @@ impl Listed for Bus {
 
 /// The source of a transition, and its target if it has one.
 #[tactic(auto, unfolding(crate::specs::Reading::and_then, crate::specs::States::movement))]
-fn movement(
-    alloc: Global,
-    reader: &mut Reader<'_>,
-) -> Result<(Text, Option<List<Text>>), Fault>
+fn movement(alloc: Global, reader: &mut Reader<'_>) -> Result<(Text, Option<List<Text>>), Fault>
     ensures { Gives (spec.movement reader.old) result reader.new }
 {
     if reader.sees_word(Word::Move) {
@@ -177,11 +174,7 @@ fn no_children(alloc: Global, reader: &mut Reader<'_>) -> Result<List<StateDecl>
 /// Children, in which at most so many states may be nested.
 #[cycle(body)]
 #[tactic(auto, unfolding(crate::specs::States::children))]
-fn children(
-    alloc: Global,
-    reader: &mut Reader<'_>,
-    room: usize,
-) -> Result<List<StateDecl>, Fault>
+fn children(alloc: Global, reader: &mut Reader<'_>, room: usize) -> Result<List<StateDecl>, Fault>
     ensures { Gives (spec.children room reader.old) result reader.new }
 {
     if room == 0 {
@@ -197,7 +190,8 @@ fn some_children(
     reader: &mut Reader<'_>,
     room: usize,
 ) -> Result<List<StateDecl>, Fault>
-    ensures { Gives (reading.many (reading.first spec.opens_state) (spec.child (spec.body room)) reader.old) result reader.new }
+    ensures { let children = reading.many (reading.first spec.opens_state) (spec.child (spec.body room)) in
+        Gives (children reader.old) result reader.new }
 {
     let mut found = List::new(alloc);
     for _turn in 0..reader.left() {

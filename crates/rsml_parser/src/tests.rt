@@ -1,13 +1,19 @@
 //! The places of faults in specifications whose tokens stand with spaces between.
 
 use crate::error::ParseError;
-use crate::specification::{parse, placed};
+use crate::specification::{parse, read_tokens};
 use rsml_syntax::{MARKS, Mark, NoMemory, Placed, Text, Token, WORDS, Word};
 use std::alloc::Global;
 use std::process::Abort;
 use std::test::Fail;
 
-const LAMP: &[u8] = b"specification Lamp ; enumeration Switch { Down , Up } input Lever : Switch = Down ; event Tick ; receive Set ( Lever ) raise Tick ; state Lamp one { default Off ; state Off ; state On ; move Off -> On on Tick when { Lever = Up | T ; } ; stay Off on Tick when { Lever = Up | F ; } ; move On -> Off on Tick when { Lever = Down | T ; } ; stay On on Tick when { Lever = Down | F ; } ; }";
+const LAMP: &[u8] = b"specification Lamp ; enumeration Switch { Down , Up } \
+    input Lever : Switch = Down ; event Tick ; receive Set ( Lever ) raise Tick ; \
+    state Lamp one { default Off ; state Off ; state On ; \
+    move Off -> On on Tick when { Lever = Up | T ; } ; \
+    stay Off on Tick when { Lever = Up | F ; } ; \
+    move On -> Off on Tick when { Lever = Down | T ; } ; \
+    stay On on Tick when { Lever = Down | F ; } ; }";
 
 fn token_of(alloc: Global, piece: &[u8]) -> Result<Token, NoMemory> {
     if let Some(word) = WORDS.iter().copied().find(|word| piece == word.spelling()) {
@@ -36,7 +42,7 @@ fn tokens_of(alloc: Global, text: &[u8]) -> Result<Vec<Placed>, NoMemory> {
 /// The fault of the tokens, if they have one.
 fn fault_of(rt: &impl Abort, alloc: Global, tokens: &[Placed]) -> Option<ParseError> {
     assert!(rt; tokens.len() <= 1_048_576);
-    match placed(alloc, tokens) {
+    match read_tokens(alloc, tokens) {
         Ok(_) => None,
         Err(error) => Some(error),
     }
@@ -58,13 +64,19 @@ fn places_faults_of_syntax(rt: HostRuntime) -> Result<(), Fail> {
         ),
         (b"specification A ; enumeration B { } state A ;", 7),
         (b"specification A ; event previous ; state A ;", 5),
-        (b"specification A ; macro M { previous 1 = 1 | T ; } state A ;", 8),
+        (
+            b"specification A ; macro M { previous 1 = 1 | T ; } state A ;",
+            8,
+        ),
         (
             b"specification A ; macro M { previous previous X = 1 | T ; } state A ;",
             8,
         ),
         (b"specification A ; macro M { X = 1 T ; } state A ;", 10),
-        (b"specification A ; state A one { default B ; array B ; }", 13),
+        (
+            b"specification A ; state A one { default B ; array B ; }",
+            13,
+        ),
         (b"event E", 1),
     ];
     for (text, token) in cases {
@@ -82,7 +94,8 @@ fn reads_what_may_be_left_out(rt: HostRuntime) -> Result<(), Fail> {
         b"specification A ; macro M { X = 1 | ; - previous X [ this ] + 2 >= 0 | T . ; } state A ;",
         b"specification A ; state A one { default B ; }",
         b"specification A ; function G { } receive R ( ) raise E ; send S ( ) { } state A all { }",
-        b"specification A ; state A one { default B ; array B [ 2 ] all { } bus C { B } move B -> B . C on E when { } raise E , G [ 1 ] ; }",
+        b"specification A ; state A one { default B ; array B [ 2 ] all { } bus C { B } \
+            move B -> B . C on E when { } raise E , G [ 1 ] ; }",
     ];
     for text in cases {
         let tokens = tokens_of(rt.alloc(), text)?;

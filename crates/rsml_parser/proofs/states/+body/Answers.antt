@@ -19,17 +19,17 @@ pub some_children-loop-turn-preserved : goal.some_children-loop-turn-preserved
 some_children-loop-turn-preserved t c =
     rw c.in_ok-push-in-Ok.ensures.ok
     (turn opens_state (child (body c.args.room)) c.left-turn-end.result c.loop-turn._turn c.loop-turn.found c.loop-turn.reader c.child.new.reader c.in-Ok.item _ (omega arith)
-      (sym c.opens_state.ensures ∙ c.if-not-opens_state.false) c.in-Ok.ensures c.loop-turn.invariant)
+    (sym c.opens_state.ensures ∙ c.if-not-opens_state.false) c.in-Ok.ensures c.loop-turn.invariant)
 
 pub some_children-returns-in-Err : goal.some_children-returns-in-Err
 some_children-returns-in-Err t c =
     passed_on (child (body c.args.room) c.loop-turn.reader) (many (first opens_state) (child (body c.args.room)) c.args.reader.now) c.in-Err.fault _
-      (λ s e. failed opens_state (child (body c.args.room)) c.left-turn-end.result c.loop-turn._turn c.loop-turn.found c.loop-turn.reader _ (omega arith)
-        (sym c.opens_state.ensures ∙ c.if-not-opens_state.false) s e c.loop-turn.invariant)
-      c.in-Err.ensures
+    (λ s e. failed opens_state (child (body c.args.room)) c.left-turn-end.result c.loop-turn._turn c.loop-turn.found c.loop-turn.reader _ (omega arith)
+    (sym c.opens_state.ensures ∙ c.if-not-opens_state.false) s e c.loop-turn.invariant)
+    c.in-Err.ensures
 
 pub some_children-returns : goal.some_children-returns
 some_children-returns t c = elim c.loop-turn-test.branch [
-    some_children-else-loop-turn-test w ↦ ended opens_state (child (body c.args.room)) c.left-turn-end.result c.loop-turn._turn c.loop-turn.found c.loop-turn.reader _ (omega arith) c.loop-turn.invariant
+  | some_children-else-loop-turn-test w ↦ ended opens_state (child (body c.args.room)) c.left-turn-end.result c.loop-turn._turn c.loop-turn.found c.loop-turn.reader _ (omega arith) c.loop-turn.invariant
   | some_children-then-loop-turn-test+then-not-opens_state w ↦ stopped opens_state (child (body c.args.room)) _ c.loop-turn.found c.loop-turn.reader _ (sym w.opens_state.ensures ∙ w.if-not-opens_state.true) c.loop-turn.invariant
-  ]
+]

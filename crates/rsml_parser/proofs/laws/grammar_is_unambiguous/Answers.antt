@@ -1,5 +1,5 @@
 use Rattle.rsml_parser.proofs.AnswerLemmas.{tokens_tell}
-use Rattle.rsml_parser.proofs.law.grammar_is_unambiguous.Goals as goal
+use Rattle.rsml_parser.proofs.laws.grammar_is_unambiguous.Goals as goal
 
 pub returns : goal.returns
 returns c = tokens_tell
