@@ -159,7 +159,7 @@ reserved_found e n h = step (word_of n) refl h
     step None same h = absurd (cc)
     step (Some w) same h =
         found_any (λ w. bytes_eq n (words.spelling w)) (λ w. is_reserved e w && bytes_eq n (words.spelling w)) WORDS w (sym same)
-          (rw h (find_passes (λ w. bytes_eq n (words.spelling w)) WORDS w (sym same)))
+        (rw h (find_passes (λ w. bytes_eq n (words.spelling w)) WORDS w (sym same)))
 
 and_false : (b : Bool) → (b && false) ≡ false
 and_false true = refl
@@ -253,8 +253,9 @@ mark_found cs m h =
 pub mark_longest : (cs : List ℕ) (m : Mark) → mark_at cs ≡ Some m → begins_longer m cs ≡ false
 unfolding mark_at marks.spelling
 mark_longest cs m h = elim (mark_spelled m).short [
-    inl one ↦ subst (λ (n : ℕ). list_any (λ x. nat_lt n (length (marks.spelling x)) && begins x) MARKS ≡ false) (sym one) (no_longer h (λ x e. differs x one e))
-  | inr two ↦ subst (λ (n : ℕ). list_any (λ x. nat_lt n (length (marks.spelling x)) && begins x) MARKS ≡ false) (sym two) refl ]
+  | inl one ↦ subst (λ (n : ℕ). list_any (λ x. nat_lt n (length (marks.spelling x)) && begins x) MARKS ≡ false) (sym one) (no_longer h (λ x e. differs x one e))
+  | inr two ↦ subst (λ (n : ℕ). list_any (λ x. nat_lt n (length (marks.spelling x)) && begins x) MARKS ≡ false) (sym two) refl
+]
   where
     begins : Mark → Bool
     begins x = starts_with nat_eq cs (marks.spelling x)
