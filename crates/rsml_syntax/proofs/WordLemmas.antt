@@ -129,7 +129,7 @@ letters_continue (c ∷ cs) h =
     letter_starts : (c : ℕ) → is_ascii_alphabetic c ≡ true → is_start c ≡ true
     letter_starts c h = let low : c < 128 = grind (arith, nat_tests) in rw (is_xid_start-ascii c low, h) refl
 
-letters_name : (cs : List ℕ) → list_all is_ascii_alphabetic cs ≡ true → nat_lt 0 (length cs) ≡ true → is_name cs ≡ true
+pub letters_name : (cs : List ℕ) → list_all is_ascii_alphabetic cs ≡ true → nat_lt 0 (length cs) ≡ true → is_name cs ≡ true
 letters_name [] h some = absurd (cc)
 letters_name (c ∷ cs) h some =
     let k = both (is_ascii_alphabetic c) (list_all is_ascii_alphabetic cs) h in
