@@ -9,7 +9,7 @@ mod nodes;
 mod read;
 
 use crate::computed::Computed;
-use crate::node::Node;
+use crate::node::{FALSE, Node, TRUE};
 use crate::reference::Ref;
 use indexmap::IndexSet;
 use rsml_syntax::NoMemory;
@@ -45,11 +45,8 @@ impl Arena {
         ensures nodes { IfOk result (λ arena. length arena.nodes ≡ 2) }
     {
         let mut nodes = IndexSet::new(alloc);
-        for place in 0..2 {
-            if nodes.insert(constant_node(levels, place)).is_err() {
-                return Err(NoMemory);
-            }
-        }
+        nodes.insert(constant_node(levels, FALSE))?;
+        nodes.insert(constant_node(levels, TRUE))?;
         Ok(Arena {
             levels,
             nodes,
@@ -70,7 +67,7 @@ impl Arena {
         ensures { Represents self.now (λ values. value) result }
     {
         let _ = &self.levels;
-        Ref::at(value as u32)
+        Ref::at(if value { TRUE } else { FALSE })
     }
 
     /// Whether the function is false everywhere.
@@ -79,7 +76,7 @@ impl Arena {
         ensures { IsTrue result ↔ ((values : ℕ → Bool) → meaning self.now f values ≡ false) }
     {
         let _ = &self.levels;
-        f.place == 0
+        f == Ref::at(FALSE)
     }
 
     /// Whether the function is true everywhere.
@@ -88,7 +85,7 @@ impl Arena {
         ensures { IsTrue result ↔ ((values : ℕ → Bool) → meaning self.now f values ≡ true) }
     {
         let _ = &self.levels;
-        f.place == 1
+        f == Ref::at(TRUE)
     }
 
     /// The laws of an arena, which a call of this function tells its caller: two handles are equal exactly where their

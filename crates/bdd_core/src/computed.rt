@@ -1,5 +1,5 @@
 //! Answers that were found before.
-ghost use Rattle.std.specs.Prelude.{◌≡◌, [], IfSome, Contains};
+ghost use Rattle.std.specs.Prelude.{◌≡◌, [], length, IfSome, Contains};
 ghost use Rattle.bdd_core.specs.Steps.{GainsOnly, blank};
 
 use std::alloc::Global;
@@ -55,7 +55,8 @@ impl Computed {
     /// Keeps an answer, where the table has slots.
     #[inline(always)]
     pub(crate) fn keep(&mut self, kept: Kept)
-        ensures { GainsOnly self.old.slots.items self.new.slots.items kept }
+        ensures gains { GainsOnly self.old.slots.items self.new.slots.items kept }
+        ensures len { length self.new.slots.items ≡ length self.old.slots.items }
     {
         let slot = slot_of(kept.f, kept.g, kept.h, self.slots.len());
         if slot < self.slots.len() {

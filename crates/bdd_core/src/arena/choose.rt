@@ -7,6 +7,7 @@ ghost use Rattle.bdd_core.specs.Steps.{IsChoice, IsSameChoice};
 
 use super::Arena;
 use crate::computed::Kept;
+use crate::node::{FALSE, TRUE};
 use crate::reference::Ref;
 use rsml_syntax::NoMemory;
 
@@ -18,7 +19,7 @@ impl Arena {
         ensures answer { IfOk result (Represents self.new (λ values. values level)) }
     {
         let _ = &self.levels;
-        let place = self.make(level, 0, 1)?;
+        let place = self.make(level, FALSE, TRUE)?;
         Ok(Ref::at(place))
     }
 
@@ -29,7 +30,7 @@ impl Arena {
         ensures answer { IfOk result (Represents self.new (λ values. not (meaning self.old f values))) }
     {
         let f = self.place(f);
-        let place = self.choose(f, 0, 1)?;
+        let place = self.choose(f, FALSE, TRUE)?;
         Ok(Ref::at(place))
     }
 
@@ -45,8 +46,9 @@ impl Arena {
     {
         let f = self.place(f);
         let g = self.place(g);
-        let place = self.choose(f, g, 0)?;
-        Ok(Ref::at(place))
+        let place = self.choose(f, g, FALSE);
+        self.laws();
+        Ok(Ref::at(place?))
     }
 
     /// The disjunction.
@@ -58,7 +60,7 @@ impl Arena {
     {
         let f = self.place(f);
         let g = self.place(g);
-        let place = self.choose(f, 1, g)?;
+        let place = self.choose(f, TRUE, g)?;
         Ok(Ref::at(place))
     }
 
@@ -144,11 +146,11 @@ fn simple(f: u32, g: u32, h: u32) -> Option<u32>
     ensures right { IfSome result (λ r. (d : Diagram) → IsRef d f → IsRef d g → IsRef d h → IsChoice d f g h r) }
     ensures open { IfNone result (2 ≤ f) }
 {
-    if f == 1 || g == h {
+    if f == TRUE || g == h {
         Some(g)
-    } else if f == 0 {
+    } else if f == FALSE {
         Some(h)
-    } else if (g == 1 || g == f) && (h == 0 || h == f) {
+    } else if (g == TRUE || g == f) && (h == FALSE || h == f) {
         Some(f)
     } else {
         None
@@ -160,9 +162,9 @@ fn simple(f: u32, g: u32, h: u32) -> Option<u32>
 fn ordered(f: u32, g: u32, h: u32) -> (u32, u32, u32)
     ensures { (d : Diagram) → IsRef d f → IsRef d g → IsRef d h → IsSameChoice d f g h result.0 result.1 result.2 }
 {
-    if h == 0 && g < f {
+    if h == FALSE && g < f {
         (g, f, h)
-    } else if g == 1 && h < f {
+    } else if g == TRUE && h < f {
         (h, g, f)
     } else {
         (f, g, h)

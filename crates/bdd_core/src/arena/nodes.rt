@@ -1,6 +1,6 @@
 //! Nodes, by their places.
 ghost use Rattle.std.specs.Prelude.{◌≡◌, ℕ, ◌<◌, ◌≤◌, length, IfOk};
-ghost use Rattle.bdd_core.specs.Diagram.{IsRef, level_of};
+ghost use Rattle.bdd_core.specs.Diagram.{IsRef, IsReduced, level_of};
 ghost use Rattle.bdd_core.specs.Calls.{Keeps};
 ghost use Rattle.bdd_core.specs.Steps.{IsChildren, IsNode};
 
@@ -17,7 +17,8 @@ impl Arena {
     #[inline(always)]
     pub(super) fn place(&self, f: Ref) -> u32
         requires { IsRef self.now f }
-        ensures { result ≡ f }
+        ensures place { result ≡ f }
+        ensures constants { 2 ≤ length self.now.nodes }
     {
         let _ = &self.levels;
         f.place as u32
@@ -30,6 +31,7 @@ impl Arena {
         ensures level { result ≡ level_of self.now f }
         ensures at_most { result ≤ self.now.levels }
         ensures below { 2 ≤ f → result < self.now.levels }
+        ensures reduced { IsReduced self.now }
     {
         self.nodes[f as usize].level
     }
