@@ -188,3 +188,14 @@ new-holds levels = record {
     alike (suc zero) (suc zero) hf hg e = refl
     alike (suc (suc f)) g hf hg e = absurd (omega arith)
     alike f (suc (suc g)) hf hg e = absurd (omega arith)
+
+-- the constants are two nodes
+apart : (levels : ℕ) → list_any (same_node (constant_at levels 1)) (constant_at levels 0 ∷ []) ≡ false
+apart levels = rw (eq-eqb levels levels refl) refl
+
+-- the keys of the set after both constants are put in
+pub new-keys : (levels : ℕ) (none one two : List Node) (f t : Node) → none ≡ [] → f ≡ constant_at levels 0 → t ≡ constant_at levels 1
+    → one ≡ insert_key same_node none f → two ≡ insert_key same_node one t → two ≡ constant_at levels 0 ∷ constant_at levels 1 ∷ []
+new-keys levels none one two f t en ef et e1 e2 =
+    let first : one ≡ constant_at levels 0 ∷ [] = e1 ∙ (λ i. insert_key same_node (en i) (ef i)) in
+    e2 ∙ (λ i. insert_key same_node (first i) (et i)) ∙ ap (λ b. if b then constant_at levels 0 ∷ [] else constant_at levels 0 ∷ constant_at levels 1 ∷ []) (apart levels)
