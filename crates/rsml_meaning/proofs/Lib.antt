@@ -1,18 +1,18 @@
 mod AllWorlds
-mod Children
+pub mod Children
 mod Computed
-mod Entering
-mod Exists
+pub mod Entering
+pub mod Exists
 mod Lengths
 mod Order
 mod OneReport
 mod Pigeons
-mod Repeats
+pub mod Repeats
 mod Reported
-mod Same
-mod Stable
+pub mod Same
+pub mod Stable
 mod Verdicts
-mod Ways
+pub mod Ways
 mod WellFormed
 mod Written
 mod examples

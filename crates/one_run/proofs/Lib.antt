@@ -1,0 +1,9 @@
+mod Apart
+mod Lines
+mod Lists
+mod Longer
+mod Lowest
+mod Paths
+mod Sends
+mod Sources
+mod Values

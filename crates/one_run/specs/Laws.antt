@@ -1,0 +1,77 @@
+-- Laws of certified specifications. Each is the contract of a function with no body.
+use Rattle.std.specs.Prelude.{◌≡◌, ℕ, ◌≤◌, List, [], ◌∷◌, length, filter, IsTrue, IsPermutation}
+use Rattle.std.specs.List.{list_any}
+use Rattle.rsml_syntax.specs.declared.syntax.Spec.{Spec}
+use Rattle.rsml_syntax.specs.declared.world.World.{World}
+use Rattle.rsml_meaning.specs.Words.{Instance, Path, is_prefix, Each, IsOne}
+use Rattle.rsml_meaning.specs.Worlds.{IsWorld}
+use Rattle.rsml_meaning.specs.Active.{active}
+use Rattle.rsml_meaning.specs.Truth.{view}
+use Rattle.rsml_meaning.specs.Transitions.{TransitionInstance, transitions, is_from, is_enabled, line}
+use Rattle.rsml_meaning.specs.Groups.{state, groups, meets}
+use Rattle.rsml_meaning.specs.Chains.{is_external, IsLength, Ends}
+use Rattle.rsml_meaning.specs.Certified.{Certified}
+use Rattle.rsml_meaning.specs.Steps.{enabled_transitions}
+use Rattle.rsml_meaning.specs.EventFiles.{Limits}
+use Rattle.rsml_meaning.specs.Runs.{HasOneRun}
+use Rattle.one_run.specs.Scoped.{WellScoped}
+use Rattle.one_run.specs.MicroSteps.{Result, IsResult, HasOneResult, NoTwoOnALine, FunctionsHaveOneValue, IsDeterminate}
+use Rattle.one_run.specs.Turns.{after_all}
+use Rattle.one_run.specs.Whole.{StepResult, IsStepResult, HasOneStep}
+
+-- Micro-steps of any specification.
+
+-- there is a micro-step from each world, on any events
+abbrev pub MicroStepsExist : Type 0
+MicroStepsExist = (s : Spec) (w : World) (present : List Instance) → IsWorld s w → (r : Result) × IsResult s w present r
+
+-- a micro-step leaves a world
+abbrev pub MicroStepsLeaveWorlds : Type 0
+MicroStepsLeaveWorlds = (s : Spec) (w : World) (present : List Instance) (r : Result) → WellScoped s → IsWorld s w → IsResult s w present r → IsWorld s r.world
+
+-- there is one result where no two taken sources lie on one line and each function has one value
+abbrev pub MicroStepsAreOne : Type 0
+MicroStepsAreOne = (s : Spec) (w : World) (present : List Instance) → WellScoped s → IsWorld s w → FunctionsHaveOneValue s w
+    → NoTwoOnALine (enabled_transitions s (view s w) present) → HasOneResult s w present
+
+-- Lines of a certified specification.
+
+-- on each lowest active line exactly one transition is enabled
+abbrev pub LowestLinesEnableOne : Type 0
+LowestLinesEnableOne = (s : Spec) (w : World) (path : Path) (e : Instance) → Certified s → IsWorld s w → IsOne (state path e) (groups s)
+    → IsTrue (meets s (view s w) (state path e)) → length (filter (is_enabled (view s w)) (line s e path)) ≡ 1
+
+-- at or below each active source of a transition on an event there is a lowest active line for it
+abbrev pub SourcesHaveLowestLines : Type 0
+SourcesHaveLowestLines = (s : Spec) (w : World) (source : Path) (e : Instance) → WellScoped s → IsTrue (active s w source) → IsTrue (list_any (is_from source e) (transitions s))
+    → (path : Path) × IsOne (state path e) (groups s) × IsTrue (meets s (view s w) (state path e)) × IsTrue (is_prefix source path)
+
+-- Rounds of a certified specification.
+
+-- a round on events that all end chains of n events from one event is determinate
+abbrev pub RoundsAreDeterminate : Type 0
+RoundsAreDeterminate = (s : Spec) (w : World) (x : Instance) (n : ℕ) (present : List Instance) → WellScoped s → Certified s → IsWorld s w
+    → Each (Ends s x n) present → IsDeterminate s w x n present
+
+-- the transitions that a round takes can be entered in any order
+abbrev pub OrderDoesNotMatter : Type 0
+OrderDoesNotMatter = (s : Spec) (w : World) (x : Instance) (n : ℕ) (present : List Instance) (r : Result) (ts : List TransitionInstance)
+    → WellScoped s → Certified s → IsWorld s w → Each (Ends s x n) present → IsResult s w present r → IsPermutation r.taken ts → after_all s ts w.choices ≡ r.world.choices
+
+-- Steps and runs of a certified specification.
+
+-- a step on an external event comes to one thing, in each world
+abbrev pub StepsAreOne : Type 0
+StepsAreOne = (s : Spec) (w : World) (x : Instance) → WellScoped s → Certified s → IsWorld s w → IsTrue (is_external s x) → HasOneStep s w (x ∷ [])
+
+-- an external event has a length
+abbrev pub EventsHaveLengths : Type 0
+EventsHaveLengths = (s : Spec) (x : Instance) → Certified s → IsTrue (is_external s x) → (n : ℕ) × IsLength s x n
+
+-- a step on an event has at most as many rounds as the event's length
+abbrev pub StepsEndInTime : Type 0
+StepsEndInTime = (s : Spec) (w : World) (x : Instance) (n : ℕ) (r : StepResult) → IsLength s x n → IsStepResult s w (x ∷ []) r → length r.rounds ≤ n
+
+-- every well-formed event file has exactly one run
+abbrev pub EventFilesHaveOneRun : Type 0
+EventFilesHaveOneRun = (s : Spec) (limits : Limits) → WellScoped s → Certified s → HasOneRun s limits
