@@ -3,7 +3,9 @@ mod Lines
 mod Lists
 mod Longer
 mod Lowest
+mod MicroSteps
 mod Paths
 mod Sends
 mod Sources
 mod Values
+mod Worlds

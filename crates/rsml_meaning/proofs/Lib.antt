@@ -1,6 +1,6 @@
 mod AllWorlds
 pub mod Children
-mod Computed
+pub mod Computed
 pub mod Entering
 pub mod Exists
 mod Lengths
