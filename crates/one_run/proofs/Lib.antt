@@ -7,5 +7,7 @@ mod MicroSteps
 mod Paths
 mod Sends
 mod Sources
+mod Steps
+mod Turns
 mod Values
 mod Worlds
