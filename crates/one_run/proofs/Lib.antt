@@ -1,4 +1,5 @@
 mod Apart
+mod Globals
 mod Lines
 mod Lists
 mod Longer

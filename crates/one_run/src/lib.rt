@@ -1,2 +1,12 @@
 //! Every well-formed event file has exactly one run of a certified specification: laws of the meaning.
 #![tactic(auto)]
+
+mod lowest_lines;
+mod micro_steps;
+mod rounds;
+mod whole_steps;
+
+pub use lowest_lines::lowest_lines_enable_one;
+pub use micro_steps::micro_steps_have_one_result;
+pub use rounds::{order_does_not_matter, rounds_are_determinate};
+pub use whole_steps::steps_have_one_result;
