@@ -4,6 +4,7 @@ mod Lines
 mod Lists
 mod Longer
 mod Lowest
+mod Messages
 mod MicroSteps
 mod Paths
 mod Sends
