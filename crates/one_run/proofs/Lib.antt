@@ -1,5 +1,6 @@
 mod Apart
 mod Globals
+mod Latched
 mod Lines
 mod Lists
 mod Longer
@@ -7,6 +8,7 @@ mod Lowest
 mod Messages
 mod MicroSteps
 mod Paths
+mod Runs
 mod Sends
 mod Sources
 mod Steps

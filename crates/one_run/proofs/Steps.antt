@@ -119,3 +119,10 @@ steps_are_one s w x scoped c i h =
     let l = events_have_lengths s x c h in
     let r = there_is s scoped c x l.0 l.1 l.0 1 w (x ∷ []) (not_empty x []) (omega arith) i (alone s x h, tt) in
     (r.0, r.1, λ q a. let p = one_step s scoped c x 1 q.rounds r.0.rounds w (x ∷ []) q.world r.0.world i (alone s x h, tt) a r.1 in λ t. record { rounds = p.0 t; world = p.1 t })
+
+-- a step leaves a world
+pub step_leaves_world : (s : Spec) → WellScoped s → (w : World) (present : List Instance) (rs : List Round) (v : World) → IsWorld s w → IsStep s w present rs v → IsWorld s v
+step_leaves_world s scoped w present [] v i a = elim a [ ]
+step_leaves_world s scoped w present (r ∷ []) v i a = micro_steps_leave_worlds s w present (result r.taken r.sent v []) scoped i a.1
+step_leaves_world s scoped w present (r ∷ q ∷ rs) v i a =
+    step_leaves_world s scoped a.1 a.2 (q ∷ rs) v (micro_steps_leave_worlds s w present (result r.taken r.sent a.1 a.2) scoped i a.4) a.5

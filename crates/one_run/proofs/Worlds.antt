@@ -28,7 +28,7 @@ choices_fit (c ∷ cs) (n ∷ ns) h = choices_fit cs ns (second_so (is_choice c 
 choices_fit [] (n ∷ ns) h = absurd (true≢false (sym h))
 choices_fit (c ∷ cs) [] h = absurd (true≢false (sym h))
 
-abbrev choices_are : (s : Spec) (w : World) → IsWorld s w → pointwise is_choice (components s) w.choices ≡ true
+pub choices_are : (s : Spec) (w : World) → IsWorld s w → pointwise is_choice (components s) w.choices ≡ true
 choices_are s w h = first_so (pointwise is_choice (components s) w.choices) (pointwise (λ c n. is_of c.numbers n) (cells s) w.cells) h
 
 pub cells_are : (s : Spec) (w : World) → IsWorld s w → pointwise (λ c n. is_of c.numbers n) (cells s) w.cells ≡ true

@@ -1,11 +1,13 @@
 //! Every well-formed event file has exactly one run of a certified specification: laws of the meaning.
 #![tactic(auto)]
 
+mod event_runs;
 mod lowest_lines;
 mod micro_steps;
 mod rounds;
 mod whole_steps;
 
+pub use event_runs::event_files_have_one_run;
 pub use lowest_lines::lowest_lines_enable_one;
 pub use micro_steps::micro_steps_have_one_result;
 pub use rounds::{order_does_not_matter, rounds_are_determinate};
