@@ -50,7 +50,7 @@ names_known (decl.Send name size fields cases) = (own_name (decl.Send name size 
 among_more : (ds es : List Decl) → ((d : Decl) → IsOne d ds → IsOne d es) → (name : Name) (k : Known) → Means ds name k → Means es name k
 among_more ds es f name k m = record { among = f k.decl m.among; named = m.named; valued = m.valued }
 
-all_known : (ds : List Decl) → AllZip (Means ds) (flat_map names_of ds) (flat_map known_by ds)
+pub all_known : (ds : List Decl) → AllZip (Means ds) (flat_map names_of ds) (flat_map known_by ds)
 all_known [] = tt
 all_known (d ∷ ds) =
     zip_append (Means (d ∷ ds)) (names_of d) (known_by d) (flat_map names_of ds) (flat_map known_by ds)

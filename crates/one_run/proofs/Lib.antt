@@ -15,3 +15,4 @@ mod Steps
 mod Turns
 mod Values
 mod Worlds
+mod rules

@@ -1,0 +1,4 @@
+mod Clean
+mod Declared
+mod Mentions
+mod Sizes
