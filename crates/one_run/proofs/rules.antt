@@ -1,4 +1,6 @@
 mod Clean
 mod Declared
 mod Mentions
+mod Sends
 mod Sizes
+mod Used
