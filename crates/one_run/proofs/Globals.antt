@@ -59,7 +59,7 @@ all_known (d ∷ ds) =
 
 -- The item beside the first that passes.
 
-position_from_on : {A : Type 0} (t : A → Bool) (i k : ℕ) (xs : List A) → position_from t i xs ≡ Some k → i ≤ k
+pub position_from_on : {A : Type 0} (t : A → Bool) (i k : ℕ) (xs : List A) → position_from t i xs ≡ Some k → i ≤ k
 position_from_on t i k [] h = cc
 position_from_on t i k (x ∷ xs) h = by_test (t x) h (position_from_on t (i + 1) k xs)
   where

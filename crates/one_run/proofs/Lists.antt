@@ -177,3 +177,22 @@ pub same_truth : (a b : Bool) → (a ≡ true → b ≡ true) → (b ≡ true �
 same_truth true b f g = sym (f refl)
 same_truth false true f g = g refl
 same_truth false false f g = refl
+
+-- Lists that are put together.
+
+pub one_of_append : {A : Type 0} (x : A) (xs ys : List A) → IsOne x (xs ++ ys) → IsOne x xs ⊎ IsOne x ys
+one_of_append x [] ys m = inr m
+one_of_append x (z ∷ xs) ys (inl e) = inl (inl e)
+one_of_append x (z ∷ xs) ys (inr m) = ⊎_elim (λ l. inl (inr l)) (λ r. inr r) (one_of_append x xs ys m)
+
+pub all_append : {A : Type 0} (p : A → Bool) (xs ys : List A) → list_all p xs ≡ true → list_all p ys ≡ true → list_all p (xs ++ ys) ≡ true
+all_append p [] ys h k = k
+all_append p (x ∷ xs) ys h k = both (p x) (list_all p (xs ++ ys)) (first_so (p x) (list_all p xs) h) (all_append p xs ys (second_so (p x) (list_all p xs) h) k)
+
+pub any_front : {A : Type 0} (p : A → Bool) (xs ys : List A) → list_any p xs ≡ true → list_any p (xs ++ ys) ≡ true
+any_front p [] ys h = absurd (true≢false (sym h))
+any_front p (x ∷ xs) ys h = ⊎_elim (λ e. or_left (p x) (list_any p (xs ++ ys)) e) (λ e. or_right (p x) (list_any p (xs ++ ys)) (any_front p xs ys e)) (or_cases (p x) (list_any p xs) h)
+
+pub any_back : {A : Type 0} (p : A → Bool) (xs ys : List A) → list_any p ys ≡ true → list_any p (xs ++ ys) ≡ true
+any_back p [] ys h = h
+any_back p (x ∷ xs) ys h = or_right (p x) (list_any p (xs ++ ys)) (any_back p xs ys h)
