@@ -1,5 +1,5 @@
 -- What a global name means is a declaration that is there.
-use Rattle.std.proofs.Common.{◌≡◌, ℕ, zero, suc, ◌+◌, ◌≤◌, Bool, true, false, cond, List, [], ◌∷◌, ◌++◌, flat_map, Option, Some, None, ◌⊎◌, inl, inr, ⊎_elim, refl, sym, ap, ◌∙◌, subst, arith, slice_get, eq-or-lt_of_le}
+use Rattle.std.proofs.Common.{◌≡◌, ℕ, zero, suc, ◌+◌, ◌<◌, ◌≤◌, Bool, true, false, cond, List, [], ◌∷◌, ◌++◌, length, flat_map, Option, Some, None, ◌⊎◌, inl, inr, ⊎_elim, refl, sym, ap, ◌∙◌, subst, arith, slice_get, eq-or-lt_of_le}
 use Rattle.std.specs.List.{AllZip, position_from}
 use Rattle.std.specs.Option.{option_map_or}
 use Rattle.rsml_syntax.specs.declared.syntax.Decl.{Decl}
@@ -16,6 +16,7 @@ pub record Means (ds : List Decl) (name : Name) (k : Known) : Type 0 where
   pub among : IsOne k.decl ds
   pub named : k.value ≡ None → name_of k.decl ≡ name
   pub valued : (k.value ≡ None) ⊎ (k.decl ≡ decl.Enumeration (name_of k.decl) (values_of k.decl))
+  pub below : (n : ℕ) → k.value ≡ Some n → n < length (values_of k.decl)
 
 zip_append : {A B : Type 0} (R : A → B → Type 0) (xs : List A) (ys : List B) (us : List A) (vs : List B) → AllZip R xs ys → AllZip R us vs → AllZip R (xs ++ us) (ys ++ vs)
 zip_append R [] [] us vs h k = k
@@ -29,15 +30,18 @@ zip_more R S f (x ∷ xs) (y ∷ ys) h = (f x y h.0, zip_more R S f xs ys h.1)
 zip_more R S f [] (y ∷ ys) h = elim h [ ]
 zip_more R S f (x ∷ xs) [] h = elim h [ ]
 
-values_known : (d : Decl) → d ≡ decl.Enumeration (name_of d) (values_of d) → (n : ℕ) (names : List Name) → AllZip (Means (d ∷ [])) names (known_values d n names)
-values_known d e n [] = tt
-values_known d e n (name ∷ names) = (record { among = inl refl; named = λ h. cc; valued = inr e }, values_known d e (n + 1) names)
+values_known : (d : Decl) → d ≡ decl.Enumeration (name_of d) (values_of d) → (n : ℕ) (names : List Name) → n + length names ≡ length (values_of d) → AllZip (Means (d ∷ [])) names (known_values d n names)
+values_known d e n [] l = tt
+values_known d e n (name ∷ names) l = (
+  record { among = inl refl; named = λ h. cc; valued = inr e; below = λ k h. let same : n ≡ k = cc in omega (arith, same, l) },
+  values_known d e (n + 1) names (omega (arith, l)),
+)
 
 own_name : (d : Decl) → Means (d ∷ []) (name_of d) (record { decl = d; value = None })
-own_name d = record { among = inl refl; named = λ h. refl; valued = inl refl }
+own_name d = record { among = inl refl; named = λ h. refl; valued = inl refl; below = λ n h. absurd (let k : ⊥ = cc in k) }
 
 names_known : (d : Decl) → AllZip (Means (d ∷ [])) (names_of d) (known_by d)
-names_known (decl.Enumeration name names) = (own_name (decl.Enumeration name names), values_known (decl.Enumeration name names) refl 0 names)
+names_known (decl.Enumeration name names) = (own_name (decl.Enumeration name names), values_known (decl.Enumeration name names) refl 0 names (omega arith))
 names_known (decl.Range name low high) = (own_name (decl.Range name low high), tt)
 names_known (decl.Constant name value) = (own_name (decl.Constant name value), tt)
 names_known (decl.Input name size kind initial) = (own_name (decl.Input name size kind initial), tt)
@@ -48,7 +52,7 @@ names_known (decl.Receive name size inputs raised) = (own_name (decl.Receive nam
 names_known (decl.Send name size fields cases) = (own_name (decl.Send name size fields cases), tt)
 
 among_more : (ds es : List Decl) → ((d : Decl) → IsOne d ds → IsOne d es) → (name : Name) (k : Known) → Means ds name k → Means es name k
-among_more ds es f name k m = record { among = f k.decl m.among; named = m.named; valued = m.valued }
+among_more ds es f name k m = record { among = f k.decl m.among; named = m.named; valued = m.valued; below = m.below }
 
 pub all_known : (ds : List Decl) → AllZip (Means ds) (flat_map names_of ds) (flat_map known_by ds)
 all_known [] = tt

@@ -1,3 +1,4 @@
+mod Cells
 mod Clean
 mod Declared
 mod Earlier

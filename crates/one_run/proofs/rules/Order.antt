@@ -194,3 +194,49 @@ module _ (s : Spec) (before after : List Decl) (is : s.decls ≡ before ++ after
           let place : place_of (name_of d) (names_in s.decls) ≡ Some p.0 = ap (place_of (name_of d)) (ap names_in is ∙ flat_map_append names_of before after) ∙ p.1 in
           let below : is_below (place_of (name_of d) (names_in s.decls)) (length (names_in before)) ≡ true = ap (λ o. is_below o (length (names_in before))) place ∙ lt-ltb p.0 (length (names_in before)) p.2 in
           true≢false (sym (or_left (is_below (place_of (name_of d) (names_in s.decls)) (length (names_in before))) (is_below (first_bound (whole s) (name_of d)) (length (names_in before))) below) ∙ fresh)
+
+-- The rule, for the declarations that are still to come.
+
+shifted : (s : Spec) (before ds : List Decl) (d : Decl) → s.decls ≡ before ++ (d ∷ ds) → s.decls ≡ (before ++ (d ∷ [])) ++ ds
+shifted s before ds d e = e ∙ sym (append_assoc before (d ∷ []) ds)
+
+in_order_from : (s : Spec) (before after : List Decl) (known : List Name) → s.decls ≡ before ++ after → Knows before known → Each (Clean s) (declared (length (names_in before)) after) → in_order known after ≡ true
+in_order_from s before [] known e k c = refl
+in_order_from s before (decl.Macro name size rows ∷ ds) known e k c =
+    let d = decl.Macro name size rows in
+    let place = length (names_in before) in
+    both (may_declare known name (used_by_rows rows)) (in_order (name ∷ known) ds)
+    (both (list_all (λ x. is_in x known) (used_by_rows rows)) (not (is_in name known))
+    (rows_known s before (d ∷ ds) e known k (scope_at (whole s) place size) rows refl (contents_clean (whole s) place d c.0)) (name_new s before (d ∷ ds) e known k d c.0))
+    (in_order_from s (before ++ (d ∷ [])) ds (name ∷ known) (shifted s before ds d e) (knows_one_more before known d k) (later_clean s before d ds c.1))
+in_order_from s before (decl.Function name size cases ∷ ds) known e k c =
+    let d = decl.Function name size cases in
+    let place = length (names_in before) in
+    both (may_declare known name (used_by_cases cases)) (in_order (name ∷ known) ds)
+    (both (list_all (λ x. is_in x known) (used_by_cases cases)) (not (is_in name known))
+    (cases_known s before (d ∷ ds) e known k (scope_at (whole s) place size) cases refl (contents_clean (whole s) place d c.0)) (name_new s before (d ∷ ds) e known k d c.0))
+    (in_order_from s (before ++ (d ∷ [])) ds (name ∷ known) (shifted s before ds d e) (knows_one_more before known d k) (later_clean s before d ds c.1))
+in_order_from s before (decl.Enumeration n names ∷ ds) known e k c =
+    let d = decl.Enumeration n names in
+    in_order_from s (before ++ (d ∷ [])) ds known (shifted s before ds d e) (knows_still before known d refl k) (later_clean s before d ds c.1)
+in_order_from s before (decl.Range n low high ∷ ds) known e k c =
+    let d = decl.Range n low high in
+    in_order_from s (before ++ (d ∷ [])) ds known (shifted s before ds d e) (knows_still before known d refl k) (later_clean s before d ds c.1)
+in_order_from s before (decl.Constant n value ∷ ds) known e k c =
+    let d = decl.Constant n value in
+    in_order_from s (before ++ (d ∷ [])) ds known (shifted s before ds d e) (knows_still before known d refl k) (later_clean s before d ds c.1)
+in_order_from s before (decl.Input n size kind initial ∷ ds) known e k c =
+    let d = decl.Input n size kind initial in
+    in_order_from s (before ++ (d ∷ [])) ds known (shifted s before ds d e) (knows_still before known d refl k) (later_clean s before d ds c.1)
+in_order_from s before (decl.Event n size ∷ ds) known e k c =
+    let d = decl.Event n size in
+    in_order_from s (before ++ (d ∷ [])) ds known (shifted s before ds d e) (knows_still before known d refl k) (later_clean s before d ds c.1)
+in_order_from s before (decl.Receive n size inputs raised ∷ ds) known e k c =
+    let d = decl.Receive n size inputs raised in
+    in_order_from s (before ++ (d ∷ [])) ds known (shifted s before ds d e) (knows_still before known d refl k) (later_clean s before d ds c.1)
+in_order_from s before (decl.Send n size names cases ∷ ds) known e k c =
+    let d = decl.Send n size names cases in
+    in_order_from s (before ++ (d ∷ [])) ds known (shifted s before ds d e) (knows_still before known d refl k) (later_clean s before d ds c.1)
+
+pub is_in_order : (s : Spec) → refused s ≡ None → IsInOrder s
+is_in_order s h = in_order_from s [] s.decls [] refl (record { all = λ d m k. absurd m; only = λ x k. absurd (true≢false (sym k)) }) (clean_declared s h)
