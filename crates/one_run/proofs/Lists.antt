@@ -2,7 +2,7 @@
 use Rattle.std.proofs.Common.{◌≡◌, ℕ, suc, ◌≤◌, Bool, true, false, cond, not, ◌&&◌, ◌||◌, List, [], ◌∷◌, ◌++◌, map, flat_map, filter, filter_map, length, Option, Some, None, ◌⊎◌, inl, inr, ⊎_elim, refl, sym, ap, ◌∙◌, subst, true≢false, arith, zip}
 use Rattle.std.specs.List.{list_any, list_all}
 use Rattle.std.specs.Cmp.{first_so, second_so}
-use Rattle.rsml_meaning.specs.Words.{Each, IsOne}
+use Rattle.rsml_meaning.specs.Words.{Each, IsOne, numbered_from}
 
 -- Tests.
 
@@ -44,6 +44,10 @@ each_flat_map P f (x ∷ xs) h = each_append P (f x) (flat_map f xs) (h x (inl r
 pub each_map : {A B : Type 0} (P : B → Type 0) (f : A → B) (xs : List A) → ((x : A) → P (f x)) → Each P (map f xs)
 each_map P f [] h = tt
 each_map P f (x ∷ xs) h = (h x, each_map P f xs h)
+
+pub each_map_ones : {A B : Type 0} (P : B → Type 0) (f : A → B) (xs : List A) → ((x : A) → IsOne x xs → P (f x)) → Each P (map f xs)
+each_map_ones P f [] h = tt
+each_map_ones P f (x ∷ xs) h = (h x (inl refl), each_map_ones P f xs (λ y m. h y (inr m)))
 
 kept : {A : Type 0} (Q : A → Type 0) (x : A) (rest : List A) (b : Bool) → (b ≡ true → Q x) → Each Q rest → Each Q (cond b (x ∷ rest) rest)
 kept Q x rest true h e = (h refl, e)
@@ -196,3 +200,13 @@ any_front p (x ∷ xs) ys h = ⊎_elim (λ e. or_left (p x) (list_any p (xs ++ y
 pub any_back : {A : Type 0} (p : A → Bool) (xs ys : List A) → list_any p ys ≡ true → list_any p (xs ++ ys) ≡ true
 any_back p [] ys h = h
 any_back p (x ∷ xs) ys h = or_right (p x) (list_any p (xs ++ ys)) (any_back p xs ys h)
+
+-- Numbered items.
+
+pub each_numbered : {A B : Type 0} (P : B → Type 0) (f : ℕ × A → B) (n : ℕ) (xs : List A) → ((n : ℕ) (x : A) → IsOne x xs → P (f (n, x))) → Each P (map f (numbered_from n xs))
+each_numbered P f n [] h = tt
+each_numbered P f n (x ∷ xs) h = (h n x (inl refl), each_numbered P f (suc n) xs (λ k y m. h k y (inr m)))
+
+pub each_numbered_flat : {A B : Type 0} (P : B → Type 0) (f : ℕ × A → List B) (n : ℕ) (xs : List A) → ((n : ℕ) (x : A) → IsOne x xs → Each P (f (n, x))) → Each P (flat_map f (numbered_from n xs))
+each_numbered_flat P f n [] h = tt
+each_numbered_flat P f n (x ∷ xs) h = each_append P (f (n, x)) (flat_map f (numbered_from (suc n) xs)) (h n x (inl refl)) (each_numbered_flat P f (suc n) xs (λ k y m. h k y (inr m)))

@@ -1,8 +1,10 @@
 mod Cells
 mod Clean
+mod Components
 mod Declared
 mod Earlier
 mod Mentions
+mod Names
 mod Order
 mod Sends
 mod Sizes

@@ -17,12 +17,12 @@ use Rattle.rsml_syntax.specs.Scopes.{Scope}
 use Rattle.rsml_syntax.specs.Uses.{mentioned, guard_used}
 use Rattle.rsml_syntax.specs.Declarations.{repeats, value_used, send_case_used, scope_at}
 use Rattle.rsml_syntax.specs.Rules.{whole, refused}
-use Rattle.rsml_meaning.specs.Words.{Each, IsOne, numbered, numbered_from}
+use Rattle.rsml_meaning.specs.Words.{Each, IsOne, numbered}
 use Rattle.rsml_meaning.specs.Instances.{globals_of}
 use Rattle.rsml_meaning.specs.Truth.{within}
 use Rattle.rsml_meaning.specs.Interfaces.{SendCaseInstance, new_send_case, send_cases_of, send_cases}
 use Rattle.one_run.specs.Scoped.{IsEvent, ValueIsScoped, AnswerIsScoped}
-use Rattle.one_run.proofs.Lists.{each_flat_map, each_one}
+use Rattle.one_run.proofs.Lists.{each_flat_map, each_numbered, each_one}
 use Rattle.one_run.proofs.rules.Clean.{IsPlaced, each_placed, names_in, no_front, no_back, none_each}
 use Rattle.one_run.proofs.rules.Declared.{contents_clean}
 use Rattle.one_run.proofs.rules.Mentions.{mentioned_is}
@@ -32,10 +32,6 @@ use Rattle.one_run.proofs.rules.Used.{decl_sized, Inside, event_is, function_is}
 pub record IsScopedCase (s : Spec) (c : SendCaseInstance) : Type 0 where
   pub trigger : IsEvent s c.event
   pub answer : AnswerIsScoped s (within c.send.index) c.answer
-
-pub each_numbered : {A B : Type 0} (P : B → Type 0) (f : ℕ × A → B) (n : ℕ) (xs : List A) → ((n : ℕ) (x : A) → IsOne x xs → P (f (n, x))) → Each P (map f (numbered_from n xs))
-each_numbered P f n [] h = tt
-each_numbered P f n (x ∷ xs) h = (h n x (inl refl), each_numbered P f (suc n) xs (λ k y m. h k y (inr m)))
 
 module _ (s : Spec) (h : refused s ≡ None) (place : Scope) (around : Option Amount) (i : ℕ) (o : Inside s place around i) where
   values_scoped : (vs : List Value) → flat_map (value_used (whole s) place) vs ≡ [] → Each (ValueIsScoped s (within i)) vs
