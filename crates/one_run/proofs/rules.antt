@@ -1,4 +1,5 @@
 mod Cells
+mod Children
 mod Clean
 mod Components
 mod Declared
@@ -6,6 +7,8 @@ mod Earlier
 mod Mentions
 mod Names
 mod Order
+pub mod Scoped
 mod Sends
 mod Sizes
+mod States
 mod Used

@@ -1,8 +1,9 @@
 -- Laws of certified specifications. Each is the contract of a function with no body.
-use Rattle.std.specs.Prelude.{◌≡◌, ℕ, ◌≤◌, List, [], ◌∷◌, length, filter, IsTrue, IsPermutation}
+use Rattle.std.specs.Prelude.{◌≡◌, ℕ, ◌≤◌, List, [], ◌∷◌, length, filter, None, IsTrue, IsPermutation}
 use Rattle.std.specs.List.{list_any}
 use Rattle.rsml_syntax.specs.declared.syntax.Spec.{Spec}
 use Rattle.rsml_syntax.specs.declared.world.World.{World}
+use Rattle.rsml_syntax.specs.Rules.{refused}
 use Rattle.rsml_meaning.specs.Words.{Instance, Path, is_prefix, Each, IsOne}
 use Rattle.rsml_meaning.specs.Worlds.{IsWorld}
 use Rattle.rsml_meaning.specs.Active.{active}
@@ -18,6 +19,12 @@ use Rattle.one_run.specs.Scoped.{WellScoped}
 use Rattle.one_run.specs.MicroSteps.{Result, IsResult, HasOneResult, NoTwoOnALine, FunctionsHaveOneValue, IsDeterminate}
 use Rattle.one_run.specs.Turns.{after_all}
 use Rattle.one_run.specs.Whole.{StepResult, IsStepResult, HasOneStep}
+
+-- What the rules give.
+
+-- a specification that keeps the rules S1 to S16 is well scoped
+abbrev pub RulesGiveScopes : Type 0
+RulesGiveScopes = (s : Spec) → refused s ≡ None → WellScoped s
 
 -- Micro-steps of any specification.
 

@@ -5,10 +5,12 @@ mod event_runs;
 mod lowest_lines;
 mod micro_steps;
 mod rounds;
+mod scopes;
 mod whole_steps;
 
 pub use event_runs::event_files_have_one_run;
 pub use lowest_lines::lowest_lines_enable_one;
 pub use micro_steps::micro_steps_have_one_result;
 pub use rounds::{order_does_not_matter, rounds_are_determinate};
+pub use scopes::rules_give_scopes;
 pub use whole_steps::steps_have_one_result;

@@ -89,7 +89,7 @@ size_is s at name (Some (amounts.Name x)) h =
 -- Indices.
 
 -- the indices of a size are 1 to its number
-indices_are : (g : Globals) (amount : Amount) (n : ℕ) → amount_of g amount ≡ Some (pos n) → indices g (Some amount) ≡ up_to n
+pub indices_are : (g : Globals) (amount : Amount) (n : ℕ) → amount_of g amount ≡ Some (pos n) → indices g (Some amount) ≡ up_to n
 indices_are g amount n e = ap (λ o. up_to (option_map_or unsigned_abs o 1)) e
 
 in_size : (g : Globals) (amount : Amount) (n k : ℕ) → amount_of g amount ≡ Some (pos n) → 1 ≤ k → k ≤ n → IsOne k (indices g (Some amount))
