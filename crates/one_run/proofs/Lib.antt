@@ -1,4 +1,6 @@
 mod Apart
+mod Deterministic
+mod Examples
 mod Globals
 mod Latched
 mod Lines

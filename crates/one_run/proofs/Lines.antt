@@ -37,11 +37,11 @@ module _ (s : Spec) (w : World) (scoped : WellScoped s) (cert : Certified s) (is
       → is_enabled v t ≡ true → is_enabled v u ≡ true → is_enabled v low ≡ true → is_prefix t.source low.source ≡ true → is_prefix u.source low.source ≡ true → ⊥
   no_pair t u low e two m ot ou ol et eu el pt pu =
       let l = lowest_line s w scoped low e m ol (source_active s w low el) in
-      let on_line : TransitionInstance → Bool = λ z. is_on e z && is_prefix z.source l.path in
+      let on_line : TransitionInstance → Bool = λ z. is_on e z && is_prefix z.source l.0 in
       let more = two_counted (λ z. on_line z && is_enabled v z) ts t u two
-      (both (on_line t) (is_enabled v t) (both (is_on e t) (is_prefix t.source l.path) ot (prefix_then t.source low.source l.path pt l.below)) et)
-      (both (on_line u) (is_enabled v u) (both (is_on e u) (is_prefix u.source l.path) ou (prefix_then u.source low.source l.path pu l.below)) eu) in
-      let one = lowest_lines_enable_one s w l.path e cert is_world l.is_in l.met in
+      (both (on_line t) (is_enabled v t) (both (is_on e t) (is_prefix t.source l.0) ot (prefix_then t.source low.source l.0 pt l.2)) et)
+      (both (on_line u) (is_enabled v u) (both (is_on e u) (is_prefix u.source l.0) ou (prefix_then u.source low.source l.0 pu l.2)) eu) in
+      let one = lowest_lines_enable_one s w l.0 e cert is_world l.1 in
       let twice = filter_twice on_line (is_enabled v) ts in
       two_not_one (subst (λ n. 2 ≤ n) (sym (ap length twice) ∙ one) more)
     where

@@ -14,14 +14,15 @@ use Rattle.rsml_meaning.specs.Groups.{Group, state, function, transition, enable
 use Rattle.rsml_meaning.specs.Certified.{Certified}
 use Rattle.rsml_meaning.proofs.Same.{instance_same, instance_itself}
 use Rattle.one_run.specs.Scoped.{WellScoped, IsState, IsEvent}
+use Rattle.one_run.specs.Deterministic.{IsLowestLine, HasLowestLine}
 use Rattle.one_run.specs.Laws.{LowestLinesEnableOne, SourcesHaveLowestLines}
 use Rattle.one_run.proofs.Lists.{both, is_false, each_one, one_map, one_of_map, one_filter, one_front, one_flat_map, any_one, any_some, none_any, many_map}
 use Rattle.one_run.proofs.Paths.{prefix_self, prefix_then, same_path_self, same_path_is}
 use Rattle.one_run.proofs.Sources.{active_in_view}
 
 pub lowest_lines_enable_one : LowestLinesEnableOne
-lowest_lines_enable_one s w path e c i g m =
-    sym (many_map transition (enabled (view s w)) (line s e path)) ∙ each_one (Sound s) (groups s) (state path e) c.sound g w i m
+lowest_lines_enable_one s w path e c i l =
+    sym (many_map transition (enabled (view s w)) (line s e path)) ∙ each_one (Sound s) (groups s) (state path e) c.sound l.group w i l.met
 
 -- One of the longest items that pass.
 
@@ -115,14 +116,7 @@ module _ (s : Spec) (w : World) (scoped : WellScoped s) where
           let shorter = low.most z m (both (is_on e z) (v.is_active z.source && is_prefix q z.source) on (both (v.is_active z.source) (is_prefix q z.source) act (prefix_then q y.source z.source low.below down))) in
           omega (arith, longer, shorter)
 
-  -- What is known of a lowest active line.
-  pub record LowestLine (e : Instance) (q : Path) : Type 0 where
-    pub path : Path
-    pub is_in : IsOne (state path e) (groups s)
-    pub met : meets s v (state path e) ≡ true
-    pub below : is_prefix q path ≡ true
-
-  pub lowest_line : (t : TransitionInstance) (e : Instance) → IsOne t ts → is_on e t ≡ true → v.is_active t.source ≡ true → LowestLine e t.source
+  pub lowest_line : (t : TransitionInstance) (e : Instance) → IsOne t ts → is_on e t ≡ true → v.is_active t.source ≡ true → HasLowestLine s w t.source e
   lowest_line t e m h k =
       let low = lowest t e m h k in
       let y = low.0 in
@@ -130,17 +124,16 @@ module _ (s : Spec) (w : World) (scoped : WellScoped s) where
       let p = y.source in
       let is_e = instance_same y.event e l.on in
       let source : list_any (is_from p e) ts ≡ true = any_one (is_from p e) ts y l.among (both (is_on e y) (same_path p p) l.on (same_path_self p)) in
-      record {
-        path = p;
-        is_in = is_group p e (each_one (λ (t : TransitionInstance). IsState s t.source) ts y scoped.sources l.among)
+      let line : IsLowestLine s w p e = record {
+        group = is_group p e (each_one (λ (t : TransitionInstance). IsState s t.source) ts y scoped.sources l.among)
             (subst (IsEvent s) is_e (each_one (λ (t : TransitionInstance). IsEvent s t.event) ts y scoped.triggers l.among)) source;
         met = both (v.is_active p) (not (reacts_inside s v p e)) l.active (ap not (none_any (reacts e p) ts (none_reacts e t.source y l)));
-        below = l.below;
-      }
+      } in
+      (p, line, l.below)
 
 pub sources_have_lowest_lines : SourcesHaveLowestLines
-sources_have_lowest_lines s w q e scoped a h =
-    let t = any_some (is_from q e) (transitions s) h in
-    let same = same_path_is t.0.source q (second_so (is_on e t.0) (same_path t.0.source q) t.2) in
-    let l = lowest_line s w scoped t.0 e t.1 (first_so (is_on e t.0) (same_path t.0.source q) t.2) (ap (view s w).is_active same ∙ active_in_view s w q a) in
-    (l.path, l.is_in, l.met, subst (λ z. is_prefix z l.path ≡ true) same l.below)
+sources_have_lowest_lines s w path e scoped a =
+    let t = any_some (is_from path e) (transitions s) a.1 in
+    let same = same_path_is t.0.source path (second_so (is_on e t.0) (same_path t.0.source path) t.2) in
+    let l = lowest_line s w scoped t.0 e t.1 (first_so (is_on e t.0) (same_path t.0.source path) t.2) (ap (view s w).is_active same ∙ active_in_view s w path a.0) in
+    (l.0, l.1, subst (λ z. is_prefix z l.0 ≡ true) same l.2)

@@ -10,9 +10,10 @@ use Rattle.rsml_meaning.specs.EventLines.{Message}
 use Rattle.rsml_meaning.specs.EventFiles.{messages, lines_of}
 use Rattle.rsml_meaning.specs.Runs.{first_world, latched, Reaction, IsRunFrom}
 use Rattle.one_run.specs.Scoped.{WellScoped}
+use Rattle.one_run.specs.Deterministic.{StepsEndInTime}
 use Rattle.one_run.specs.Whole.{StepResult, IsStepResult}
-use Rattle.one_run.specs.Laws.{EventFilesHaveOneRun}
-use Rattle.one_run.proofs.Steps.{steps_are_one, step_leaves_world}
+use Rattle.one_run.specs.Laws.{RunsEndInTime, EventFilesHaveOneRun}
+use Rattle.one_run.proofs.Steps.{steps_are_one, steps_are_short, step_leaves_world}
 use Rattle.one_run.proofs.Messages.{IsTold, all_told}
 use Rattle.one_run.proofs.Latched.{first_is_world, latched_is_world}
 
@@ -51,6 +52,19 @@ module _ (s : Spec) (scoped : WellScoped s) (c : Certified s) where
           let first = same_reaction q (record { receive = m.receive.receive; rounds = r.rounds }) h.0 (ap (λ z. z.rounds) same) in
           let later = rest.only qs (subst (λ z. IsRunFrom s z ms qs) (ap (λ z. z.world) same) h.3) in
           λ t. first t ∷ later t
+
+-- each step of a run ends in time
+in_time : (s : Spec) (w : World) (ms : List Message) (rs : List Reaction) → IsRunFrom s w ms rs → StepsEndInTime s ms rs
+in_time s w [] [] h = tt
+in_time s w (m ∷ ms) (r ∷ rs) h = (
+  λ n l. steps_are_short s (latched s w m) m.receive.raised n (record { rounds = r.rounds; world = h.1 }) l h.2,
+  in_time s h.1 ms rs h.3,
+)
+in_time s w [] (r ∷ rs) h = elim h [ ]
+in_time s w (m ∷ ms) [] h = elim h [ ]
+
+pub runs_end_in_time : RunsEndInTime
+runs_end_in_time s lines rs h = in_time s (first_world s) (messages s lines) rs h
 
 pub event_files_have_one_run : EventFilesHaveOneRun
 event_files_have_one_run s limits scoped c content h =

@@ -14,7 +14,7 @@ use Rattle.rsml_meaning.proofs.Ways.{length_or_endless}
 use Rattle.one_run.specs.Scoped.{WellScoped}
 use Rattle.one_run.specs.MicroSteps.{Result, IsResult}
 use Rattle.one_run.specs.Whole.{StepResult, IsStepResult}
-use Rattle.one_run.specs.Laws.{EventsHaveLengths, StepsEndInTime, StepsAreOne}
+use Rattle.one_run.specs.Laws.{EventsHaveLengths, StepsAreShort, StepsAreOne}
 use Rattle.one_run.proofs.Lists.{both}
 use Rattle.one_run.proofs.Worlds.{micro_steps_leave_worlds}
 use Rattle.one_run.proofs.MicroSteps.{rounds_are_determinate}
@@ -47,8 +47,8 @@ rounds_end s x l h n (r ∷ q ∷ rs) w v present ne e a =
     let rest = rounds_end s x l h (suc n) (q ∷ rs) a.1 v a.2 a.3 (next_longer s w x n present (result r.taken r.sent a.1 a.2) a.4 e) a.5 in
     omega (arith, rest)
 
-pub steps_end_in_time : StepsEndInTime
-steps_end_in_time s w x n r h a =
+pub steps_are_short : StepsAreShort
+steps_are_short s w x n r h a =
     let chain = h.reached in
     let external = is_first s x chain.0 (first_so (is_chain s chain.0) (begins_with x chain.0) chain.1) (second_so (is_chain s chain.0) (begins_with x chain.0) chain.1) in
     let l = rounds_end s x n h 1 r.rounds w r.world (x ∷ []) (not_empty x []) (alone s x external, tt) a in

@@ -1,22 +1,20 @@
 -- Laws of certified specifications. Each is the contract of a function with no body.
-use Rattle.std.specs.Prelude.{◌≡◌, ℕ, ◌≤◌, List, [], ◌∷◌, length, filter, None, IsTrue, IsPermutation}
-use Rattle.std.specs.List.{list_any}
+use Rattle.std.specs.Prelude.{◌≡◌, ℕ, ◌≤◌, List, [], ◌∷◌, length, None, IsTrue, IsPermutation}
 use Rattle.rsml_syntax.specs.declared.syntax.Spec.{Spec}
 use Rattle.rsml_syntax.specs.declared.world.World.{World}
 use Rattle.rsml_syntax.specs.Rules.{refused}
-use Rattle.rsml_meaning.specs.Words.{Instance, Path, is_prefix, Each, IsOne}
+use Rattle.rsml_meaning.specs.Words.{Instance, Path, Each}
 use Rattle.rsml_meaning.specs.Worlds.{IsWorld}
-use Rattle.rsml_meaning.specs.Active.{active}
 use Rattle.rsml_meaning.specs.Truth.{view}
-use Rattle.rsml_meaning.specs.Transitions.{TransitionInstance, transitions, is_from, is_enabled, line}
-use Rattle.rsml_meaning.specs.Groups.{state, groups, meets}
+use Rattle.rsml_meaning.specs.Transitions.{TransitionInstance}
 use Rattle.rsml_meaning.specs.Chains.{is_external, IsLength, Ends}
 use Rattle.rsml_meaning.specs.Certified.{Certified}
 use Rattle.rsml_meaning.specs.Steps.{enabled_transitions}
-use Rattle.rsml_meaning.specs.EventFiles.{Limits}
-use Rattle.rsml_meaning.specs.Runs.{HasOneRun}
+use Rattle.rsml_meaning.specs.EventFiles.{Limits, Line, messages}
+use Rattle.rsml_meaning.specs.Runs.{Reaction, IsRun, HasOneRun}
 use Rattle.one_run.specs.Scoped.{WellScoped}
 use Rattle.one_run.specs.MicroSteps.{Result, IsResult, HasOneResult, NoTwoOnALine, FunctionsHaveOneValue, IsDeterminate}
+use Rattle.one_run.specs.Deterministic.{IsLowestLine, enabled_on_line, IsActiveSource, HasLowestLine, StepsEndInTime, IsDeterministic}
 use Rattle.one_run.specs.Turns.{after_all}
 use Rattle.one_run.specs.Whole.{StepResult, IsStepResult, HasOneStep}
 
@@ -45,13 +43,11 @@ MicroStepsAreOne = (s : Spec) (w : World) (present : List Instance) → WellScop
 
 -- on each lowest active line exactly one transition is enabled
 abbrev pub LowestLinesEnableOne : Type 0
-LowestLinesEnableOne = (s : Spec) (w : World) (path : Path) (e : Instance) → Certified s → IsWorld s w → IsOne (state path e) (groups s)
-    → IsTrue (meets s (view s w) (state path e)) → length (filter (is_enabled (view s w)) (line s e path)) ≡ 1
+LowestLinesEnableOne = (s : Spec) (w : World) (path : Path) (e : Instance) → Certified s → IsWorld s w → IsLowestLine s w path e → enabled_on_line s w path e ≡ 1
 
 -- at or below each active source of a transition on an event there is a lowest active line for it
 abbrev pub SourcesHaveLowestLines : Type 0
-SourcesHaveLowestLines = (s : Spec) (w : World) (source : Path) (e : Instance) → WellScoped s → IsTrue (active s w source) → IsTrue (list_any (is_from source e) (transitions s))
-    → (path : Path) × IsOne (state path e) (groups s) × IsTrue (meets s (view s w) (state path e)) × IsTrue (is_prefix source path)
+SourcesHaveLowestLines = (s : Spec) (w : World) (path : Path) (e : Instance) → WellScoped s → IsActiveSource s w path e → HasLowestLine s w path e
 
 -- Rounds of a certified specification.
 
@@ -76,9 +72,17 @@ abbrev pub EventsHaveLengths : Type 0
 EventsHaveLengths = (s : Spec) (x : Instance) → Certified s → IsTrue (is_external s x) → (n : ℕ) × IsLength s x n
 
 -- a step on an event has at most as many rounds as the event's length
-abbrev pub StepsEndInTime : Type 0
-StepsEndInTime = (s : Spec) (w : World) (x : Instance) (n : ℕ) (r : StepResult) → IsLength s x n → IsStepResult s w (x ∷ []) r → length r.rounds ≤ n
+abbrev pub StepsAreShort : Type 0
+StepsAreShort = (s : Spec) (w : World) (x : Instance) (n : ℕ) (r : StepResult) → IsLength s x n → IsStepResult s w (x ∷ []) r → length r.rounds ≤ n
+
+-- each step of a run ends within the length of its event
+abbrev pub RunsEndInTime : Type 0
+RunsEndInTime = (s : Spec) (lines : List Line) (rs : List Reaction) → IsRun s lines rs → StepsEndInTime s (messages s lines) rs
 
 -- every well-formed event file has exactly one run
 abbrev pub EventFilesHaveOneRun : Type 0
 EventFilesHaveOneRun = (s : Spec) (limits : Limits) → WellScoped s → Certified s → HasOneRun s limits
+
+-- a specification that keeps the rules and is certified is deterministic
+abbrev pub CertifiedIsDeterministic : Type 0
+CertifiedIsDeterministic = (s : Spec) → refused s ≡ None → Certified s → IsDeterministic s

@@ -1,3 +1,4 @@
+pub mod Deterministic
 pub mod Laws
 pub mod MicroSteps
 pub mod Scoped

@@ -1,4 +1,4 @@
-ghost use Rattle.one_run.specs.Laws.{StepsAreOne, EventsHaveLengths, StepsEndInTime};
+ghost use Rattle.one_run.specs.Laws.{StepsAreOne, EventsHaveLengths, StepsAreShort};
 
 /// In a certified specification a step on an external event comes to one thing, from every world: its
 /// rounds with their present events, taken transitions, send cases and values, and the last world.
@@ -6,5 +6,5 @@ ghost use Rattle.one_run.specs.Laws.{StepsAreOne, EventsHaveLengths, StepsEndInT
 pub fn steps_have_one_result()
     ensures one { StepsAreOne }
     ensures lengths { EventsHaveLengths }
-    ensures time { StepsEndInTime }
+    ensures short { StepsAreShort }
 {}

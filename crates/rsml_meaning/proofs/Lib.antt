@@ -8,7 +8,7 @@ mod Order
 mod OneReport
 mod Pigeons
 pub mod Repeats
-mod Reported
+pub mod Reported
 pub mod Same
 pub mod Stable
 mod Verdicts
@@ -16,4 +16,4 @@ pub mod Ways
 mod WellFormed
 mod Written
 mod examples
-mod values
+pub mod values
