@@ -1,10 +1,8 @@
 -- Where no two taken sources lie on one line, each component gets one child.
-use Rattle.std.proofs.Common.{◌≡◌, ℕ, Bool, true, false, List, [], ◌∷◌, filter_map, zip, Option, Some, None, if◌then◌else◌, ◌⊎◌, inl, inr, ⊎_elim, refl, sym, ap, ◌∙◌, subst, true≢false}
+use Rattle.std.proofs.Common.{◌≡◌, ℕ, Bool, true, false, List, [], ◌∷◌, filter_map, Option, Some, None, if◌then◌else◌, ◌⊎◌, inl, inr, ⊎_elim, refl, sym, ap, ◌∙◌, subst, true≢false}
 use Rattle.std.specs.List.{cons_option}
-use Rattle.rsml_syntax.specs.declared.syntax.Spec.{Spec}
-use Rattle.rsml_syntax.specs.declared.world.World.{World}
-use Rattle.rsml_meaning.specs.Words.{Instance, Path, is_prefix, on_one_line, Each, IsOne, AllThree}
-use Rattle.rsml_meaning.specs.Instances.{Component, components}
+use Rattle.rsml_meaning.specs.Words.{Path, is_prefix, on_one_line, Each, IsOne, AllThree}
+use Rattle.rsml_meaning.specs.Instances.{Component}
 use Rattle.rsml_meaning.specs.Active.{child_place, entered, given}
 use Rattle.rsml_meaning.specs.Transitions.{TransitionInstance}
 use Rattle.rsml_meaning.specs.Steps.{given_by, or_kept, outcomes}

@@ -1,5 +1,5 @@
 -- A specification that keeps the rules and is certified is deterministic.
-use Rattle.std.proofs.Common.{refl, sym, ◌∙◌, map, filter, flat_map, ◌++◌}
+use Rattle.std.proofs.Common.{refl, sym, ◌∙◌, filter}
 use Rattle.rsml_meaning.specs.EventFiles.{program_limits}
 use Rattle.rsml_meaning.specs.Truth.{view}
 use Rattle.rsml_meaning.specs.Interfaces.{send_cases, is_case}

@@ -1,5 +1,5 @@
 -- The premises hold of specifications: the lamp, and one whose chains have three events.
-use Rattle.std.proofs.Common.{◌≡◌, refl}
+use Rattle.std.proofs.Common.{refl}
 use Rattle.rsml_meaning.proofs.Reported.{certified}
 use Rattle.rsml_meaning.proofs.values.Lamp.{lamp}
 use Rattle.rsml_meaning.proofs.values.Fork.{fork}

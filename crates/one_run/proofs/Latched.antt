@@ -1,5 +1,5 @@
 -- The first world is a world, and what an event latches leaves a world.
-use Rattle.std.proofs.Common.{◌≡◌, ℕ, Bool, true, false, not, ◌&&◌, List, [], ◌∷◌, ◌++◌, map, filter, flat_map, Option, Some, None, zip, ℤ, pos, if◌then◌else◌, unwrap_or, inl, inr, refl, sym, ap, ◌∙◌, subst, true≢false, IsTrue}
+use Rattle.std.proofs.Common.{◌≡◌, Bool, true, false, not, List, [], ◌∷◌, map, filter, Option, Some, None, zip, ℤ, pos, if◌then◌else◌, unwrap_or, inl, inr, refl, sym, ap, ◌∙◌, subst, true≢false, IsTrue}
 use Rattle.std.specs.Cmp.{first_so, second_so}
 use Rattle.std.specs.Cmp.Lexicographic.{pointwise}
 use Rattle.rsml_syntax.specs.declared.syntax.Spec.{Spec}
@@ -17,7 +17,7 @@ use Rattle.rsml_meaning.specs.EventLines.{Message}
 use Rattle.rsml_meaning.specs.Runs.{first_world, number_for, told, latched_cell, latched}
 use Rattle.rsml_meaning.proofs.Same.{instance_same, instance_itself}
 use Rattle.one_run.specs.Scoped.{WellScoped}
-use Rattle.one_run.proofs.Lists.{both, each_append, each_flat_map, each_map, each_more, each_filter, each_one, each_ones, one_map, one_front}
+use Rattle.one_run.proofs.Lists.{both, each_append, each_flat_map, each_map, each_more, each_filter, each_one, each_ones, one_front}
 use Rattle.one_run.proofs.Worlds.{has_children, is_child, choices_are, cells_are}
 use Rattle.one_run.proofs.Messages.{IsTold, IsFit}
 

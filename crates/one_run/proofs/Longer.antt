@@ -4,7 +4,7 @@ use Rattle.std.specs.List.{list_any}
 use Rattle.std.specs.Cmp.{first_so, second_so}
 use Rattle.rsml_syntax.specs.declared.syntax.Spec.{Spec}
 use Rattle.rsml_syntax.specs.declared.world.World.{World}
-use Rattle.rsml_meaning.specs.Words.{Each, IsOne, Instance, same_instance, has}
+use Rattle.rsml_meaning.specs.Words.{Each, IsOne, Instance, has}
 use Rattle.rsml_meaning.specs.Instances.{events}
 use Rattle.rsml_meaning.specs.Truth.{view}
 use Rattle.rsml_meaning.specs.Transitions.{TransitionInstance, transitions, is_on, is_enabled}

@@ -1,18 +1,16 @@
 -- At or below each active source of a transition on an event there is a lowest active line for it.
-use Rattle.std.proofs.Common.{◌≡◌, ℕ, ◌≤◌, Bool, true, false, not, ◌&&◌, ◌||◌, List, [], ◌∷◌, ◌++◌, map, flat_map, filter, length, le_trans, ltb-false, ltb-true, ◌⊎◌, inl, inr, ⊎_elim, refl, sym, ap, ◌∙◌, subst, true≢false, arith, nat_lt, IsTrue}
+use Rattle.std.proofs.Common.{◌≡◌, ℕ, ◌≤◌, Bool, true, false, not, ◌&&◌, List, [], ◌∷◌, ◌++◌, map, flat_map, filter, length, le_trans, ltb-false, ltb-true, ◌⊎◌, inl, inr, ⊎_elim, refl, sym, ap, ◌∙◌, subst, true≢false, arith, nat_lt}
 use Rattle.std.specs.List.{list_any}
 use Rattle.std.specs.Cmp.{first_so, second_so}
 use Rattle.rsml_syntax.specs.declared.syntax.Spec.{Spec}
 use Rattle.rsml_syntax.specs.declared.world.World.{World}
-use Rattle.rsml_meaning.specs.Words.{Each, IsOne, Instance, Path, same_instance, same_path, is_prefix, is_proper_prefix}
+use Rattle.rsml_meaning.specs.Words.{IsOne, Instance, Path, same_path, is_prefix, is_proper_prefix}
 use Rattle.rsml_meaning.specs.Instances.{State, states, events}
-use Rattle.rsml_meaning.specs.Worlds.{IsWorld}
 use Rattle.rsml_meaning.specs.Truth.{View, view}
-use Rattle.rsml_meaning.specs.Transitions.{TransitionInstance, transitions, is_on, is_from, is_enabled, line}
+use Rattle.rsml_meaning.specs.Transitions.{TransitionInstance, transitions, is_on, is_from, line}
 use Rattle.rsml_meaning.specs.Interfaces.{sends, functions}
-use Rattle.rsml_meaning.specs.Groups.{Group, state, function, transition, enabled, state_groups, send_groups, groups, reacts_inside, meets, Sound}
-use Rattle.rsml_meaning.specs.Certified.{Certified}
-use Rattle.rsml_meaning.proofs.Same.{instance_same, instance_itself}
+use Rattle.rsml_meaning.specs.Groups.{state, function, transition, enabled, state_groups, send_groups, groups, reacts_inside, Sound}
+use Rattle.rsml_meaning.proofs.Same.{instance_same}
 use Rattle.one_run.specs.Scoped.{WellScoped, IsState, IsEvent}
 use Rattle.one_run.specs.Deterministic.{IsLowestLine, HasLowestLine}
 use Rattle.one_run.specs.Laws.{LowestLinesEnableOne, SourcesHaveLowestLines}

@@ -1,6 +1,6 @@
 -- What is known of an event that a line tells: it raises an external event, and its numbers are of the types of its inputs.
-use Rattle.std.proofs.Common.{◌≡◌, ℕ, ◌≤◌, Bool, true, false, cond, ◌&&◌, List, [], ◌∷◌, map, Option, Some, None, zip, ℤ, if◌then◌else◌, inl, inr, refl, sym, ap, ◌∙◌, subst, nat_le, leb-true, option_and_then, filter_map}
-use Rattle.std.specs.List.{list_any, list_all, cons_option}
+use Rattle.std.proofs.Common.{◌≡◌, ℕ, Bool, true, false, ◌&&◌, List, [], ◌∷◌, map, Option, Some, None, zip, ℤ, if◌then◌else◌, inl, inr, refl, sym, ap, ◌∙◌, subst, nat_le, leb-true, option_and_then, filter_map}
+use Rattle.std.specs.List.{list_all, cons_option}
 use Rattle.std.specs.Str.{is_utf8}
 use Rattle.std.specs.Cmp.{first_so, second_so}
 use Rattle.rsml_syntax.specs.declared.syntax.Spec.{Spec}
@@ -9,15 +9,15 @@ use Rattle.rsml_syntax.specs.declared.syntax.Mention.{Mention}
 use Rattle.rsml_syntax.specs.declared.syntax.Decl.{Decl}
 use Rattle.rsml_syntax.specs.declared.syntax.Decl.TheVariants as decl
 use Rattle.rsml_syntax.specs.Names.{Name}
-use Rattle.rsml_syntax.specs.Globals.{Known, Globals, meaning, many, indices, name_of}
+use Rattle.rsml_syntax.specs.Globals.{Known, Globals, meaning, many, indices}
 use Rattle.rsml_meaning.specs.Words.{Each, IsOne, Instance, same_instance}
 use Rattle.rsml_meaning.specs.Instances.{globals_of}
 use Rattle.rsml_meaning.specs.Cells.{InputType, input_type, is_of}
 use Rattle.rsml_meaning.specs.Truth.{within, instance}
 use Rattle.rsml_meaning.specs.Interfaces.{ReceiveInstance, new_receive, receives, receives_of}
 use Rattle.rsml_meaning.specs.Chains.{is_external}
-use Rattle.rsml_meaning.specs.EventLines.{Bytes, Interface, interface_by, interface, up_to_size, index_told, in_brackets, digits_number, is_empty, name_part, index_part, fields, Fields, words, is_skipped, Message, Outcome, breaks, tells, LineRule, E1, E2, E3, E4, E5, E6, E7, all_some, value_number, read_values, read_fields, read_instance, read_words, read_line}
-use Rattle.rsml_meaning.specs.EventFiles.{Line, outcome, message, messages, without_return}
+use Rattle.rsml_meaning.specs.EventLines.{Bytes, Interface, interface_by, interface, up_to_size, index_told, in_brackets, digits_number, is_empty, name_part, index_part, fields, Fields, words, is_skipped, Message, Outcome, breaks, tells, E1, E2, E3, E4, E5, E6, E7, all_some, value_number, read_values, read_fields, read_instance, read_words, read_line}
+use Rattle.rsml_meaning.specs.EventFiles.{Line, message, messages, without_return}
 use Rattle.rsml_meaning.proofs.Same.{instance_itself}
 use Rattle.one_run.proofs.Lists.{one_map, one_flat_map, any_one}
 use Rattle.one_run.proofs.Globals.{Means, meaning_is, in_up_to}

@@ -1,5 +1,5 @@
 -- A micro-step has one result where no two taken sources lie on one line and each function has one value.
-use Rattle.std.proofs.Common.{◌≡◌, ℕ, suc, true, ◌&&◌, List, [], ◌∷◌, map, filter, zip, fold, length, drop, arith, ℤ, refl, sym, ap, ◌∙◌, subst}
+use Rattle.std.proofs.Common.{◌≡◌, true, ◌&&◌, List, [], ◌∷◌, map, zip, fold, drop, ℤ, refl, sym, ap, ◌∙◌, subst}
 use Rattle.std.specs.List.{AllZip}
 use Rattle.rsml_syntax.specs.declared.syntax.Spec.{Spec}
 use Rattle.rsml_syntax.specs.declared.world.World.{World}
@@ -12,14 +12,11 @@ use Rattle.rsml_syntax.specs.declared.syntax.Answer.TheVariants as answers
 use Rattle.rsml_syntax.specs.Comparisons.{Reading}
 use Rattle.rsml_meaning.specs.Words.{Each, IsOne, AllThree, Instance, has}
 use Rattle.rsml_meaning.specs.Instances.{components, globals_of}
-use Rattle.rsml_meaning.specs.Worlds.{IsWorld}
 use Rattle.rsml_meaning.specs.Truth.{View, view, learn, bare, within, instance, Gives}
 use Rattle.rsml_meaning.specs.Interfaces.{SendCaseInstance, send_cases, is_sending}
-use Rattle.rsml_meaning.specs.Chains.{Ends}
-use Rattle.rsml_meaning.specs.Certified.{Certified}
 use Rattle.rsml_meaning.specs.Steps.{Sent, IsValue, AreValues, outcomes, enabled_transitions, enabled_sends, raised_by}
 use Rattle.one_run.specs.Scoped.{WellScoped, ValueIsScoped, AnswerIsScoped}
-use Rattle.one_run.specs.MicroSteps.{Result, IsResult, HasOneResult, NoTwoOnALine, FunctionsHaveOneValue, IsDeterminate}
+use Rattle.one_run.specs.MicroSteps.{Result, IsResult, NoTwoOnALine, FunctionsHaveOneValue}
 use Rattle.one_run.specs.Laws.{MicroStepsAreOne, RoundsAreDeterminate}
 use Rattle.one_run.proofs.Lists.{each_filter, each_more}
 use Rattle.one_run.proofs.Sources.{each_taken}

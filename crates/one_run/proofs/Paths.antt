@@ -1,8 +1,8 @@
 -- Words on paths.
-use Rattle.std.proofs.Common.{◌≡◌, ℕ, ◌<◌, Bool, true, false, ◌&&◌, List, [], ◌∷◌, ◌++◌, length, drop, ◌⊎◌, inl, inr, ⊎_elim, refl, sym, ap, ◌∙◌, subst, true≢false, append_assoc, arith, lt-ltb, length-append}
+use Rattle.std.proofs.Common.{◌≡◌, ◌<◌, true, ◌&&◌, [], ◌∷◌, ◌++◌, length, drop, ◌⊎◌, inl, inr, refl, sym, ap, ◌∙◌, subst, true≢false, append_assoc, arith, lt-ltb, length-append}
 use Rattle.std.specs.Cmp.{first_so, second_so}
 use Rattle.rsml_syntax.specs.declared.world.Step.{Step}
-use Rattle.rsml_meaning.specs.Words.{Instance, Path, same_instance, is_prefix, is_proper_prefix, same_path}
+use Rattle.rsml_meaning.specs.Words.{Path, same_instance, is_prefix, is_proper_prefix, same_path}
 use Rattle.rsml_meaning.proofs.Same.{instance_same, instance_itself}
 use Rattle.one_run.proofs.Lists.{both}
 

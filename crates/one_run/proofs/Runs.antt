@@ -1,11 +1,10 @@
 -- Every well-formed event file has exactly one run of a certified specification.
-use Rattle.std.proofs.Common.{◌≡◌, List, [], ◌∷◌, refl, sym, ap, ◌∙◌, subst}
+use Rattle.std.proofs.Common.{◌≡◌, List, [], ◌∷◌, refl, ap, subst}
 use Rattle.rsml_syntax.specs.declared.syntax.Spec.{Spec}
 use Rattle.rsml_syntax.specs.declared.world.World.{World}
 use Rattle.rsml_meaning.specs.Words.{Each}
 use Rattle.rsml_meaning.specs.Worlds.{IsWorld}
 use Rattle.rsml_meaning.specs.Certified.{Certified}
-use Rattle.rsml_meaning.specs.Steps.{Round, IsStep}
 use Rattle.rsml_meaning.specs.EventLines.{Message}
 use Rattle.rsml_meaning.specs.EventFiles.{messages, lines_of}
 use Rattle.rsml_meaning.specs.Runs.{first_world, latched, Reaction, IsRunFrom}

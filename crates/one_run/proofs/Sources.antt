@@ -1,5 +1,5 @@
 -- Of two active sources whose components lie on one line, the sources lie on one line.
-use Rattle.std.proofs.Common.{◌≡◌, ℕ, Bool, true, false, ◌&&◌, ◌||◌, List, [], ◌∷◌, ◌++◌, map, fold, filter, zip, slice_index_or, if◌then◌else◌, inl, inr, ⊎_elim, refl, sym, ap, ◌∙◌, subst, true≢false, append_assoc}
+use Rattle.std.proofs.Common.{◌≡◌, ℕ, Bool, true, false, ◌&&◌, List, [], ◌∷◌, ◌++◌, map, fold, zip, slice_index_or, if◌then◌else◌, inl, inr, ⊎_elim, refl, sym, ap, ◌∙◌, subst, true≢false, append_assoc}
 use Rattle.std.specs.List.{list_all}
 use Rattle.std.specs.Cmp.{first_so, second_so}
 use Rattle.std.proofs.lemmas.List.{append_cancel_left}
@@ -9,7 +9,6 @@ use Rattle.rsml_syntax.specs.declared.world.Step.{Step}
 use Rattle.rsml_syntax.specs.declared.syntax.Decl.{Decl}
 use Rattle.rsml_syntax.specs.declared.syntax.Decl.TheVariants as decl
 use Rattle.rsml_syntax.specs.Names.{Name}
-use Rattle.rsml_syntax.specs.Globals.{Globals}
 use Rattle.rsml_meaning.specs.Words.{Instance, Path, at, has, child_path, is_prefix, is_proper_prefix, on_one_line, numbered, Each, IsOne, AllThree}
 use Rattle.rsml_meaning.specs.Instances.{Component, components, globals_of}
 use Rattle.rsml_meaning.specs.Active.{active, chosen, leads_on}

@@ -1,5 +1,5 @@
 -- A step of a certified specification comes to one thing, and ends in time.
-use Rattle.std.proofs.Common.{◌≡◌, ◌≢◌, ℕ, zero, suc, ◌+◌, ◌≤◌, true, ◌&&◌, List, [], ◌∷◌, length, arith, inl, inr, ⊎_elim, refl, sym, ap, ◌∙◌, subst}
+use Rattle.std.proofs.Common.{◌≡◌, ◌≢◌, ℕ, zero, suc, ◌+◌, ◌≤◌, true, List, [], ◌∷◌, length, arith, ⊎_elim, refl, sym, ap, ◌∙◌, subst}
 use Rattle.std.specs.Cmp.{first_so, second_so}
 use Rattle.rsml_syntax.specs.declared.syntax.Spec.{Spec}
 use Rattle.rsml_syntax.specs.declared.world.World.{World}
@@ -81,7 +81,7 @@ module _ (s : Spec) (scoped : WellScoped s) (c : Certified s) (x : Instance) whe
   one_step n (r ∷ r₂ ∷ rs) (q ∷ q₂ ∷ qs) w present v₁ v₂ i h a b =
       let m = same_micro n w present (result r.taken r.sent a.1 a.2) (result q.taken q.sent b.1 b.2) i h a.4 b.4 in
       let later : IsStep s a.1 a.2 (q₂ ∷ qs) v₂ =
-          subst (λ z. IsStep s z a.2 (q₂ ∷ qs) v₂) (sym (ap (λ z. z.world) m)) (subst (λ z. IsStep s b.1 z (q₂ ∷ qs) v₂) (sym (ap (λ z. z.raised) m)) b.5) in
+      subst (λ z. IsStep s z a.2 (q₂ ∷ qs) v₂) (sym (ap (λ z. z.world) m)) (subst (λ z. IsStep s b.1 z (q₂ ∷ qs) v₂) (sym (ap (λ z. z.raised) m)) b.5) in
       let rest = one_step (suc n) (r₂ ∷ rs) (q₂ ∷ qs) a.1 a.2 v₁ v₂
       (micro_steps_leave_worlds s w present (result r.taken r.sent a.1 a.2) scoped i a.4)
       (next_longer s w x n present (result r.taken r.sent a.1 a.2) a.4 h) a.5 later in

@@ -1,5 +1,5 @@
 -- The transitions that are taken together can be entered one after another, in any order.
-use Rattle.std.proofs.Common.{◌≡◌, ℕ, Bool, true, List, [], ◌∷◌, map, zip, fold, filter_map, Option, Some, None, unwrap_or, ◌⊎◌, inl, inr, refl, sym, ap, ◌∙◌, subst, IsPermutation, All}
+use Rattle.std.proofs.Common.{◌≡◌, ℕ, List, [], ◌∷◌, map, zip, fold, filter_map, Option, Some, None, unwrap_or, ◌⊎◌, inl, inr, refl, sym, ap, ◌∙◌, subst, IsPermutation}
 use Rattle.std.specs.List.{cons_option, AllByRecursion}
 use Rattle.std.proofs.lemmas.List.Sorted.{All-permutation, IsPermutation-sym}
 use Rattle.std.proofs.lemmas.List.Elements.{All-from_recursion, recursion_from_All}
@@ -7,9 +7,8 @@ use Rattle.rsml_syntax.specs.declared.syntax.Spec.{Spec}
 use Rattle.rsml_meaning.specs.Words.{Each, IsOne, AllThree, Path}
 use Rattle.rsml_meaning.specs.Instances.{Component, components}
 use Rattle.rsml_meaning.specs.Active.{enter, given}
-use Rattle.rsml_meaning.specs.Truth.{view}
 use Rattle.rsml_meaning.specs.Transitions.{TransitionInstance}
-use Rattle.rsml_meaning.specs.Steps.{given_by, or_kept, outcomes, enabled_transitions}
+use Rattle.rsml_meaning.specs.Steps.{given_by, or_kept, outcomes}
 use Rattle.one_run.specs.MicroSteps.{NoTwoOnALine}
 use Rattle.one_run.specs.Turns.{after_one, after_all}
 use Rattle.one_run.specs.Laws.{OrderDoesNotMatter}

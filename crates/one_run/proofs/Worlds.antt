@@ -1,5 +1,5 @@
 -- A micro-step leaves a world, and there is one from each world.
-use Rattle.std.proofs.Common.{◌≡◌, ℕ, suc, ◌+◌, ◌<◌, Bool, true, false, cond, ◌&&◌, List, [], ◌∷◌, length, filter_map, Option, Some, None, is_some, if◌then◌else◌, ◌⊎◌, inl, inr, ⊎_elim, refl, sym, ap, ◌∙◌, subst, true≢false, arith, nat_lt, lt-ltb, ltb-true, unwrap_or, IsTrue}
+use Rattle.std.proofs.Common.{◌≡◌, ℕ, suc, ◌+◌, ◌<◌, Bool, true, false, cond, List, [], ◌∷◌, length, filter_map, Option, Some, None, is_some, if◌then◌else◌, ◌⊎◌, inl, inr, ⊎_elim, refl, sym, ap, ◌∙◌, subst, true≢false, arith, nat_lt, lt-ltb, unwrap_or, IsTrue}
 use Rattle.std.specs.List.{position_from, cons_option}
 use Rattle.std.specs.Cmp.{first_so, second_so}
 use Rattle.std.specs.Cmp.Lexicographic.{pointwise}
@@ -16,7 +16,6 @@ use Rattle.rsml_meaning.specs.Transitions.{TransitionInstance}
 use Rattle.rsml_meaning.specs.Steps.{given_by, or_kept, outcomes, enabled_transitions, raised_by}
 use Rattle.rsml_meaning.proofs.Computed.{sent_by, world_after}
 use Rattle.rsml_meaning.proofs.Exists.{fits, micro_is}
-use Rattle.one_run.specs.MicroSteps.{Result, IsResult}
 use Rattle.one_run.specs.Laws.{MicroStepsExist, MicroStepsLeaveWorlds}
 use Rattle.one_run.proofs.Lists.{both}
 

@@ -6,7 +6,7 @@ use Rattle.rsml_syntax.specs.declared.world.World.{World}
 use Rattle.rsml_meaning.specs.Words.{Instance, same_instance, has, on_one_line, Each, IsOne}
 use Rattle.rsml_meaning.specs.Truth.{View, view, within, guard, Gives}
 use Rattle.rsml_meaning.specs.Transitions.{TransitionInstance}
-use Rattle.rsml_meaning.specs.Interfaces.{SendCaseInstance, send_cases, sends, FunctionInstance, functions}
+use Rattle.rsml_meaning.specs.Interfaces.{send_cases, sends, FunctionInstance, functions}
 use Rattle.rsml_meaning.specs.Chains.{Ends}
 use Rattle.rsml_meaning.specs.Steps.{Sent, Micro, enabled_transitions, enabled_sends}
 

@@ -1,5 +1,5 @@
 -- What the rules give of a specification: each name stands for what is declared.
-use Rattle.std.specs.Prelude.{◌≡◌, List, map, IsTrue, ⊤}
+use Rattle.std.specs.Prelude.{◌≡◌, map, IsTrue, ⊤}
 use Rattle.rsml_syntax.specs.declared.syntax.Spec.{Spec}
 use Rattle.rsml_syntax.specs.declared.syntax.Mention.{Mention}
 use Rattle.rsml_syntax.specs.declared.syntax.Value.{Value}

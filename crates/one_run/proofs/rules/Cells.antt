@@ -1,10 +1,8 @@
 -- The initial number of a cell is of its type, which is that of its input's name.
-use Rattle.std.proofs.Common.{◌≡◌, ℕ, ◌<◌, Bool, true, false, not, ◌&&◌, List, [], ◌∷◌, ◌++◌, map, filter, length, is_some, Option, Some, None, ⊎_elim, ℤ, pos, ◌-ℤ◌, int_le, refl, sym, ap, ◌∙◌, subst, arith, true≢false, IsTrue}
+use Rattle.std.proofs.Common.{◌≡◌, ℕ, ◌<◌, true, false, ◌&&◌, List, [], ◌∷◌, map, filter, length, is_some, Option, Some, None, ⊎_elim, ℤ, pos, ◌-ℤ◌, int_le, refl, sym, ap, ◌∙◌, subst, arith, true≢false, IsTrue}
 use Rattle.std.specs.Option.{option_map_or}
-use Rattle.std.specs.Cmp.{first_so, second_so}
 use Rattle.std.proofs.lemmas.Int.{ints}
 use Rattle.rsml_syntax.specs.declared.syntax.Spec.{Spec}
-use Rattle.rsml_syntax.specs.declared.syntax.Amount.{Amount}
 use Rattle.rsml_syntax.specs.declared.syntax.Decl.{Decl}
 use Rattle.rsml_syntax.specs.declared.syntax.Decl.TheVariants as decl
 use Rattle.rsml_syntax.specs.declared.syntax.Signed.{Signed}
@@ -12,10 +10,9 @@ use Rattle.rsml_syntax.specs.declared.syntax.Initial.{Initial}
 use Rattle.rsml_syntax.specs.declared.syntax.Initial.TheVariants as initials
 use Rattle.rsml_syntax.specs.declared.want.Want.TheVariants as want
 use Rattle.rsml_syntax.specs.Names.{Name, same}
-use Rattle.rsml_syntax.specs.Globals.{Known, Globals, name_of, values_of, meaning, constant_of, constant, number_of, number, indices}
+use Rattle.rsml_syntax.specs.Globals.{Known, name_of, values_of, meaning, constant_of, constant, number_of, number, indices}
 use Rattle.rsml_syntax.specs.Thresholds.{type_ends}
 use Rattle.rsml_syntax.specs.Previous.{names_previous}
-use Rattle.rsml_syntax.specs.Breaches.{breach}
 use Rattle.rsml_syntax.specs.Uses.{fits, used}
 use Rattle.rsml_syntax.specs.Declarations.{is_between, is_value_of, is_initial, initial_used, scope_at}
 use Rattle.rsml_syntax.specs.Rules.{whole, refused}
@@ -23,11 +20,11 @@ use Rattle.rsml_meaning.specs.Words.{Instance, at, Each, IsOne}
 use Rattle.rsml_meaning.specs.Instances.{globals_of}
 use Rattle.rsml_meaning.specs.Cells.{InputCell, new_type, no_type, type_named, type_by, input_type, is_of, initial_number, new_cell, cells_of, own_cells, as_previous, previous_cells, cells}
 use Rattle.rsml_meaning.proofs.Same.{name_same}
-use Rattle.one_run.proofs.Lists.{both, each_append, each_flat_map, each_map, each_more, each_filter, each_one}
+use Rattle.one_run.proofs.Lists.{both, each_append, each_flat_map, each_more, each_filter, each_one}
 use Rattle.one_run.proofs.Globals.{Means, meaning_is}
 use Rattle.one_run.proofs.rules.Clean.{IsPlaced, each_placed, names_in, no_front, holds}
 use Rattle.one_run.proofs.rules.Declared.{own_clean, contents_clean, own_meaning}
-use Rattle.one_run.proofs.rules.Mentions.{IsUsed, used_is}
+use Rattle.one_run.proofs.rules.Mentions.{used_is}
 
 -- Numbers of names.
 

@@ -1,36 +1,26 @@
 -- The children of a state: the index of `this`, and the paths of those of a `one` state.
-use Rattle.std.proofs.Common.{◌≡◌, ℕ, zero, suc, ◌≤◌, Bool, true, false, cond, not, ◌&&◌, ◌||◌, ◌==◌, List, [], ◌∷◌, ◌++◌, map, length, flat_map, filter_map, fold, is_some, Option, Some, None, if◌then◌else◌, inl, inr, ⊎_elim, refl, sym, ap, ◌∙◌, subst, true≢false, IsTrue, arith}
-use Rattle.std.specs.List.{cons_option}
-use Rattle.std.specs.Option.{option_map_or}
-use Rattle.std.specs.Cmp.{second_so}
+use Rattle.std.proofs.Common.{◌≡◌, ℕ, ◌≤◌, true, false, not, ◌&&◌, ◌==◌, List, [], ◌∷◌, ◌++◌, map, flat_map, fold, is_some, Option, Some, None, if◌then◌else◌, inl, inr, ⊎_elim, refl, sym, ap, ◌∙◌, subst, true≢false, arith}
 use Rattle.std.proofs.lemmas.Bool.Decides.{nat_tests}
 use Rattle.rsml_syntax.specs.declared.syntax.Spec.{Spec}
 use Rattle.rsml_syntax.specs.declared.syntax.Amount.{Amount}
-use Rattle.rsml_syntax.specs.declared.syntax.Bus.{Bus}
-use Rattle.rsml_syntax.specs.declared.syntax.Transition.{Transition}
-use Rattle.rsml_syntax.specs.declared.syntax.Body.{Body, Basic, One', All', Row_of-StateDecl, end_of-StateDecl, more_of-StateDecl}
+use Rattle.rsml_syntax.specs.declared.syntax.Body.{Row_of-StateDecl, end_of-StateDecl, more_of-StateDecl}
 use Rattle.rsml_syntax.specs.declared.world.Step.{Step}
-use Rattle.rsml_syntax.specs.Names.{Name, same, is_in}
+use Rattle.rsml_syntax.specs.Names.{Name, is_in}
 use Rattle.rsml_syntax.specs.Globals.{indices}
 use Rattle.rsml_syntax.specs.Breaches.{breach}
 use Rattle.rsml_syntax.specs.Parts.{Part, Opens, Closes, nearer, placed, inside, row_parts, children_of, top_of}
 use Rattle.rsml_syntax.specs.Parts as part
-use Rattle.rsml_syntax.specs.Owners.{is_count}
 use Rattle.rsml_syntax.specs.Uses.{sized}
-use Rattle.rsml_syntax.specs.States.{child_names, bus_names, state_scope, is_composed, is_misplaced, buses, transition}
-use Rattle.rsml_syntax.specs.Rules.{whole, refused}
+use Rattle.rsml_syntax.specs.States.{state_scope, is_composed, is_misplaced}
+use Rattle.rsml_syntax.specs.Rules.{whole}
 use Rattle.rsml_meaning.specs.Words.{Each, IsOne, Path, at, child_path}
 use Rattle.rsml_meaning.specs.Instances.{State, Component, globals_of, row_names, component_of, new_state, row_inside, states, components}
 use Rattle.rsml_meaning.specs.Instances as made
 use Rattle.rsml_meaning.specs.Transitions.{innermost}
-use Rattle.rsml_meaning.proofs.Same.{name_same}
-use Rattle.one_run.specs.Scoped.{IsState}
-use Rattle.one_run.proofs.Lists.{each_append, each_flat_map, one_map, one_of_map, one_front, one_back, one_flat_map}
-use Rattle.one_run.proofs.rules.Clean.{Clean, CleanStates, clean_states, front_each, back_each, no_front, no_back, none_each, holds, unbroken}
+use Rattle.one_run.proofs.Lists.{one_map, one_of_map, one_front, one_back}
+use Rattle.one_run.proofs.rules.Clean.{Clean, back_each, no_front, no_back, holds, unbroken}
 use Rattle.one_run.proofs.rules.Names.{in_cases}
 use Rattle.one_run.proofs.rules.Sizes.{IsSized, size_is, of_up_to, indices_are}
-use Rattle.one_run.proofs.rules.Used.{Inside}
-use Rattle.one_run.proofs.rules.Components.{members_are, IsScopedComponent, transitions_scoped, names_of_row}
 
 -- The index of `this`.
 

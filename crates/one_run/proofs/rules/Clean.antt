@@ -1,15 +1,14 @@
 -- Where nothing is refused there is no breach, and no part of the specification has one.
-use Rattle.std.proofs.Common.{◌≡◌, ℕ, Bool, true, false, not, List, [], ◌∷◌, ◌++◌, length, flat_map, Option, Some, None, if◌then◌else◌, nat_lt, refl, sym, ap, ◌∙◌, subst, append_assoc, append-nil, length-append, ◌+◌}
+use Rattle.std.proofs.Common.{◌≡◌, ℕ, Bool, true, false, not, List, [], ◌∷◌, ◌++◌, length, flat_map, Some, None, if◌then◌else◌, nat_lt, refl, sym, ap, ◌∙◌, subst, append_assoc, append-nil, length-append, ◌+◌}
 use Rattle.rsml_syntax.specs.declared.syntax.Spec.{Spec}
 use Rattle.rsml_syntax.specs.declared.syntax.Decl.{Decl}
 use Rattle.rsml_syntax.specs.Names.{Name}
 use Rattle.rsml_syntax.specs.Globals.{names_of}
-use Rattle.rsml_syntax.specs.Breaches.{Breach, breach, lower, noted, lowest}
-use Rattle.rsml_syntax.specs.Parts.{Part, Declared, Opens, Closes, declared, inside, top_of, parts}
+use Rattle.rsml_syntax.specs.Breaches.{Breach, breach, noted, lowest}
+use Rattle.rsml_syntax.specs.Parts.{Part, Opens, Closes, declared, inside, top_of, parts}
 use Rattle.rsml_syntax.specs.Declarations.{declaration}
 use Rattle.rsml_syntax.specs.Rules.{whole, judged, breaches, refused}
-use Rattle.rsml_meaning.specs.Words.{Each, IsOne}
-use Rattle.one_run.proofs.Lists.{each_one}
+use Rattle.rsml_meaning.specs.Words.{Each}
 
 -- Breaches.
 

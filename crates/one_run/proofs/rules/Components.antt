@@ -1,5 +1,5 @@
 -- The sources of a component's transitions are states, and their triggers are events.
-use Rattle.std.proofs.Common.{◌≡◌, ℕ, Bool, true, false, cond, not, ◌&&◌, ◌||◌, List, [], ◌∷◌, ◌++◌, map, length, flat_map, find, Option, Some, None, inl, inr, ⊎_elim, refl, sym, ap, ◌∙◌, subst, true≢false, IsTrue}
+use Rattle.std.proofs.Common.{◌≡◌, ℕ, Bool, true, false, cond, not, ◌||◌, List, [], ◌∷◌, ◌++◌, map, flat_map, find, Option, Some, None, inl, inr, ⊎_elim, refl, sym, ap, ◌∙◌, true≢false, IsTrue}
 use Rattle.std.specs.List.{list_all, list_any}
 use Rattle.std.specs.Cmp.{first_so, second_so}
 use Rattle.rsml_syntax.specs.declared.syntax.Spec.{Spec}
@@ -7,7 +7,7 @@ use Rattle.rsml_syntax.specs.declared.syntax.Amount.{Amount}
 use Rattle.rsml_syntax.specs.declared.syntax.Bus.{Bus}
 use Rattle.rsml_syntax.specs.declared.syntax.Transition.{Transition}
 use Rattle.rsml_syntax.specs.declared.syntax.StateDecl.{StateDecl}
-use Rattle.rsml_syntax.specs.declared.syntax.Body.{Body, One', Row_of-StateDecl, end_of-StateDecl, more_of-StateDecl, items-the_row-StateDecl}
+use Rattle.rsml_syntax.specs.declared.syntax.Body.{Body, Row_of-StateDecl, end_of-StateDecl, more_of-StateDecl, items-the_row-StateDecl}
 use Rattle.rsml_syntax.specs.declared.want.Want.TheVariants as want
 use Rattle.rsml_syntax.specs.Names.{Name, same, is_in}
 use Rattle.rsml_syntax.specs.Breaches.{breach}
@@ -17,12 +17,12 @@ use Rattle.rsml_syntax.specs.Scopes.{Scope}
 use Rattle.rsml_syntax.specs.Uses.{mentioned, guard_used}
 use Rattle.rsml_syntax.specs.States.{child_names, bus_names, are_members, has_repeat, buses, target, transition, raised_again}
 use Rattle.rsml_syntax.specs.Rules.{whole, refused}
-use Rattle.rsml_meaning.specs.Words.{Each, IsOne, Path, at, child_path, numbered}
+use Rattle.rsml_meaning.specs.Words.{Each, IsOne, at, child_path}
 use Rattle.rsml_meaning.specs.Instances.{Component, globals_of, row_names}
 use Rattle.rsml_meaning.specs.Transitions.{TransitionInstance, innermost, sources, new_transition, transitions_of}
 use Rattle.one_run.specs.Scoped.{IsState, IsEvent}
-use Rattle.one_run.proofs.Lists.{or_cases, or_right, each_flat_map, each_map_ones, each_numbered_flat, each_one}
-use Rattle.one_run.proofs.rules.Clean.{no_front, no_back, none_each, holds}
+use Rattle.one_run.proofs.Lists.{or_cases, each_map_ones, each_numbered_flat, each_one}
+use Rattle.one_run.proofs.rules.Clean.{no_front, no_back, holds}
 use Rattle.one_run.proofs.rules.Mentions.{mentioned_is}
 use Rattle.one_run.proofs.rules.Used.{Inside, event_is}
 use Rattle.one_run.proofs.rules.Names.{is_in_any}
@@ -71,10 +71,13 @@ sources_are c name m h = by_bus (find (λ (b : Bus). same name b.name) c.buses) 
     by_bus (Some b) e =
         let are = each_one (AreMembers c.children) c.buses b m (found_is (λ (b : Bus). same name b.name) c.buses b e) in
         all_each (λ x. is_in x c.children) b.members (first_so (list_all (λ x. is_in x c.children) b.members) (not (has_repeat [] b.members)) are)
-    by_bus None e = (⊎_elim
-        (λ k. k)
-        (λ k. absurd (true≢false (sym k ∙ is_in_any name (map (λ (b : Bus). b.name) c.buses) ∙ not_found name c.buses e)))
-        (or_cases (is_in name c.children) (is_in name (map (λ (b : Bus). b.name) c.buses)) h), tt)
+    by_bus None e = (
+      ⊎_elim
+          (λ k. k)
+          (λ k. absurd (true≢false (sym k ∙ is_in_any name (map (λ (b : Bus). b.name) c.buses) ∙ not_found name c.buses e)))
+          (or_cases (is_in name c.children) (is_in name (map (λ (b : Bus). b.name) c.buses)) h),
+      tt,
+    )
 
 -- Transitions.
 
@@ -118,7 +121,7 @@ module _ (s : Spec) (h : refused s ≡ None) (place : Scope) (around : Option Am
   transition_scoped : (n : ℕ) (t : Transition) → transition (whole s) place body t ≡ [] → Each (IsScopedTransition s) (map (new_transition (globals_of s) c (n, t)) (sources c t.source))
   transition_scoped n t k =
       let source : (is_in t.source c.children || is_in t.source (map (λ (b : Bus). b.name) c.buses)) ≡ true =
-          ap (λ z. is_in t.source z || is_in t.source (map (λ (b : Bus). b.name) c.buses)) names ∙ ap (λ z. is_in t.source (child_names body) || is_in t.source z) bus ∙ source_right s place body t k in
+      ap (λ z. is_in t.source z || is_in t.source (map (λ (b : Bus). b.name) c.buses)) names ∙ ap (λ z. is_in t.source (child_names body) || is_in t.source z) bus ∙ source_right s place body t k in
       let are = sources_are c t.source members source in
       let event = event_is s h place around (innermost c.path) o t.trigger (mentioned_is s place want.Event t.trigger (trigger_right s place body t k)) in
       each_map_ones (IsScopedTransition s) (new_transition (globals_of s) c (n, t)) (sources c t.source)

@@ -1,22 +1,20 @@
 -- Each declaration is what its name means.
-use Rattle.std.proofs.Common.{◌≡◌, ℕ, zero, suc, ◌+◌, ◌≤◌, ◌<◌, Bool, true, false, cond, ◌||◌, List, [], ◌∷◌, ◌++◌, length, flat_map, Option, Some, None, inl, inr, ⊎_elim, ◌⊎◌, refl, sym, ap, ◌∙◌, subst, arith, nat_lt, ltb-false, slice_get, true≢false}
+use Rattle.std.proofs.Common.{◌≡◌, ℕ, suc, ◌+◌, ◌≤◌, Bool, true, false, cond, ◌||◌, List, [], ◌∷◌, ◌++◌, length, flat_map, Some, None, refl, sym, ap, ◌∙◌, arith, nat_lt, ltb-false, slice_get, true≢false}
 use Rattle.std.specs.List.{AllZip, position_from}
 use Rattle.std.specs.Option.{option_map_or}
 use Rattle.rsml_syntax.specs.declared.syntax.Spec.{Spec}
 use Rattle.rsml_syntax.specs.declared.syntax.Decl.{Decl}
 use Rattle.rsml_syntax.specs.Names.{Name, same, place_of}
-use Rattle.rsml_syntax.specs.Globals.{Known, Globals, globals, name_of, names_of, values_of, known_values, known_by, meaning, size_of}
-use Rattle.rsml_syntax.specs.Breaches.{Breach, breach}
+use Rattle.rsml_syntax.specs.Globals.{name_of, names_of, values_of, known_values, known_by, meaning, size_of}
+use Rattle.rsml_syntax.specs.Breaches.{breach}
 use Rattle.rsml_syntax.specs.Scopes.{Whole, first_bound}
 use Rattle.rsml_syntax.specs.Declarations.{is_below, is_taken, declared_again, own_breaches, contents_used, scope_at, declaration}
 use Rattle.rsml_syntax.specs.Uses.{sized}
 use Rattle.rsml_syntax.specs.Owners.{owner}
 use Rattle.rsml_syntax.specs.Written.{guards_of, sums_of}
 use Rattle.rsml_syntax.specs.Rules.{whole}
-use Rattle.rsml_meaning.specs.Words.{Each, IsOne}
 use Rattle.rsml_meaning.specs.Instances.{globals_of}
 use Rattle.rsml_meaning.proofs.Same.{name_itself}
-use Rattle.one_run.proofs.Lists.{one_back}
 use Rattle.one_run.proofs.Globals.{Means, all_known}
 use Rattle.one_run.proofs.rules.Clean.{IsPlaced, names_in, flat_map_append, no_front, no_back, unbroken}
 
@@ -92,9 +90,9 @@ own_meaning s d p =
     let xs = names_in p.before in
     let names : names_in s.decls ≡ xs ++ (name_of d ∷ (values_of d ++ names_in p.after)) = ap names_in p.is ∙ flat_map_append names_of p.before (d ∷ p.after) in
     let known : flat_map known_by s.decls ≡ flat_map known_by p.before ++ (record { decl = d; value = None } ∷ (known_values d 0 (values_of d) ++ flat_map known_by p.after))
-        = ap (flat_map known_by) p.is ∙ flat_map_append known_by p.before (d ∷ p.after) in
+    = ap (flat_map known_by) p.is ∙ flat_map_append known_by p.before (d ∷ p.after) in
     let first = unbroken 1 (name_of d) (is_taken (whole s) (length xs) (name_of d))
-        (no_front (breach 1 (name_of d) (is_taken (whole s) (length xs) (name_of d))) (declared_again (whole s) (length xs + 1) (values_of d)) (again_clean (whole s) (length xs) d p.clean)) in
+    (no_front (breach 1 (name_of d) (is_taken (whole s) (length xs) (name_of d))) (declared_again (whole s) (length xs + 1) (values_of d)) (again_clean (whole s) (length xs) d p.clean)) in
     let place = own_place (whole s) xs (name_of d) (values_of d ++ names_in p.after) names first in
     let long = as_long (Means p.before) xs (flat_map known_by p.before) (all_known p.before) in
     ap (λ o. option_map_or (λ q. slice_get (flat_map known_by s.decls) q) o None) place

@@ -1,5 +1,5 @@
 -- A macro or a function that is used without a breach was declared before.
-use Rattle.std.proofs.Common.{◌≡◌, ℕ, zero, suc, ◌+◌, ◌<◌, Bool, true, false, cond, not, ◌||◌, List, [], ◌∷◌, ◌++◌, length, flat_map, is_some, Option, Some, None, ⊎_elim, refl, sym, ap, ◌∙◌, subst, arith, nat_lt, ltb-true, slice_get, true≢false}
+use Rattle.std.proofs.Common.{◌≡◌, ℕ, zero, suc, ◌+◌, ◌<◌, Bool, true, false, cond, not, ◌||◌, List, [], ◌∷◌, ◌++◌, length, flat_map, is_some, Some, None, ⊎_elim, refl, sym, ap, ◌∙◌, subst, arith, nat_lt, ltb-true, slice_get, true≢false}
 use Rattle.std.specs.List.{position_from}
 use Rattle.rsml_syntax.specs.declared.syntax.Spec.{Spec}
 use Rattle.rsml_syntax.specs.declared.syntax.Decl.{Decl}
@@ -14,7 +14,7 @@ use Rattle.rsml_meaning.proofs.Same.{name_same}
 use Rattle.one_run.proofs.Globals.{Means, all_known, beside, position_from_on}
 use Rattle.one_run.proofs.rules.Clean.{names_in, flat_map_append}
 use Rattle.one_run.proofs.rules.Declared.{as_long}
-use Rattle.one_run.proofs.rules.Mentions.{IsUsed, used_is}
+use Rattle.one_run.proofs.rules.Mentions.{used_is}
 
 -- Places in two lists put together.
 

@@ -1,15 +1,14 @@
 -- What is known of a name that is used without a breach.
-use Rattle.std.proofs.Common.{◌≡◌, ℕ, zero, suc, ◌+◌, ◌≤◌, ◌<◌, Bool, true, false, cond, not, ◌&&◌, ◌||◌, List, [], ◌∷◌, ◌++◌, length, flat_map, Option, Some, None, refl, sym, ap, ◌∙◌, subst, arith, nat_lt, slice_get, true≢false}
+use Rattle.std.proofs.Common.{◌≡◌, ℕ, suc, ◌+◌, Bool, true, false, cond, not, ◌||◌, List, [], ◌∷◌, flat_map, Option, Some, None, refl, sym, ap, ◌∙◌, subst, arith, nat_lt, slice_get, true≢false}
 use Rattle.std.specs.List.{AllZip, position_from}
 use Rattle.std.specs.Option.{option_map_or}
 use Rattle.rsml_syntax.specs.declared.syntax.Spec.{Spec}
-use Rattle.rsml_syntax.specs.declared.syntax.Decl.{Decl}
 use Rattle.rsml_syntax.specs.declared.syntax.Mention.{Mention}
 use Rattle.rsml_syntax.specs.declared.want.Want.{Want}
 use Rattle.rsml_syntax.specs.Names.{Name, same, place_of}
-use Rattle.rsml_syntax.specs.Globals.{Known, Globals, globals, names_of, known_by, meaning, size_of}
+use Rattle.rsml_syntax.specs.Globals.{Known, known_by, meaning, size_of}
 use Rattle.rsml_syntax.specs.Breaches.{breach}
-use Rattle.rsml_syntax.specs.Scopes.{Whole, Scope, is_indexed, size_number}
+use Rattle.rsml_syntax.specs.Scopes.{Scope, is_indexed, size_number}
 use Rattle.rsml_syntax.specs.Uses.{is_definition, is_declared, fits, used, is_indexed_for, mentioned}
 use Rattle.rsml_syntax.specs.Rules.{whole}
 use Rattle.rsml_meaning.specs.Instances.{globals_of}

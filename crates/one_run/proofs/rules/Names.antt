@@ -1,5 +1,5 @@
 -- Names that are in a list.
-use Rattle.std.proofs.Common.{◌≡◌, ℕ, ◌+◌, Bool, true, false, cond, ◌||◌, List, [], ◌∷◌, ◌++◌, is_some, Option, Some, None, inl, inr, ⊎_elim, ◌⊎◌, refl, sym, ap, ◌∙◌}
+use Rattle.std.proofs.Common.{◌≡◌, ℕ, ◌+◌, Bool, true, false, cond, ◌||◌, List, [], ◌∷◌, ◌++◌, is_some, Some, inl, inr, ⊎_elim, ◌⊎◌, refl, sym, ◌∙◌}
 use Rattle.std.specs.List.{list_any, position_from}
 use Rattle.rsml_syntax.specs.Names.{Name, same, is_in}
 use Rattle.rsml_meaning.proofs.Same.{name_same, name_itself}

@@ -1,6 +1,6 @@
 -- Macros and functions have names of their own and are used after their declaration alone.
-use Rattle.std.proofs.Common.{◌≡◌, ℕ, ◌+◌, Bool, true, false, cond, not, ◌&&◌, ◌||◌, List, [], ◌∷◌, ◌++◌, length, flat_map, is_some, Option, Some, None, inl, inr, ⊎_elim, ◌⊎◌, refl, sym, ap, ◌∙◌, subst, append_assoc, nat_lt, lt-ltb, true≢false}
-use Rattle.std.specs.List.{list_all, list_any, position_from}
+use Rattle.std.proofs.Common.{◌≡◌, ℕ, ◌+◌, Bool, true, false, not, List, [], ◌∷◌, ◌++◌, length, flat_map, Option, Some, None, inl, inr, ⊎_elim, refl, sym, ap, ◌∙◌, append_assoc, lt-ltb, true≢false}
+use Rattle.std.specs.List.{list_all}
 use Rattle.std.specs.Option.{option_map_or}
 use Rattle.rsml_syntax.specs.declared.syntax.Spec.{Spec}
 use Rattle.rsml_syntax.specs.declared.syntax.Decl.{Decl}
@@ -26,11 +26,9 @@ use Rattle.rsml_syntax.specs.Declarations.{is_below, is_taken, declared_again, c
 use Rattle.rsml_syntax.specs.Rules.{whole, refused}
 use Rattle.rsml_meaning.specs.Words.{Each, IsOne}
 use Rattle.rsml_meaning.specs.InOrder.{used_by_simple, used_by_rows, used_by_cases, may_declare, in_order, IsInOrder}
-use Rattle.rsml_meaning.proofs.Same.{name_same, name_itself}
-use Rattle.one_run.proofs.Lists.{both, or_left, or_right, or_cases, is_false, one_of_append, all_append, any_front, any_back}
+use Rattle.one_run.proofs.Lists.{both, or_left, is_false, one_of_append, all_append}
 use Rattle.one_run.proofs.rules.Clean.{Clean, names_in, flat_map_append, no_front, no_back, unbroken, clean_declared, later_clean}
 use Rattle.one_run.proofs.rules.Declared.{again_clean, contents_clean}
-use Rattle.one_run.proofs.rules.Mentions.{mentioned_is}
 use Rattle.one_run.proofs.rules.Names.{in_front, in_back, in_first, in_more, in_cases}
 use Rattle.one_run.proofs.rules.Earlier.{back_place, used_before}
 

@@ -1,7 +1,5 @@
 -- A specification that keeps the rules is well scoped.
-use Rattle.std.proofs.Common.{◌≡◌, None}
-use Rattle.rsml_syntax.specs.declared.syntax.Spec.{Spec}
-use Rattle.rsml_meaning.specs.Words.{Each}
+use Rattle.std.proofs.Common.{◌≡◌}
 use Rattle.rsml_meaning.specs.Instances.{components, globals_of}
 use Rattle.rsml_meaning.specs.Truth.{within}
 use Rattle.rsml_meaning.specs.Cells.{cells, input_type, is_of}

@@ -1,5 +1,5 @@
 -- Sizes are numbers from 1 on, and an index that is right is one of the indices of its size.
-use Rattle.std.proofs.Common.{◌≡◌, ℕ, zero, suc, ◌≤◌, Bool, true, false, not, ◌&&◌, List, [], ◌∷◌, ◌++◌, Option, Some, None, ◌⊎◌, inl, inr, ⊎_elim, ℤ, pos, negsuc, int_le, refl, sym, ap, ◌∙◌, subst, arith, true≢false, unsigned_abs, if◌then◌else◌}
+use Rattle.std.proofs.Common.{◌≡◌, ℕ, zero, suc, ◌≤◌, true, false, not, List, [], ◌∷◌, ◌++◌, Option, Some, None, ◌⊎◌, inl, inr, ⊎_elim, ℤ, pos, negsuc, int_le, refl, sym, ap, ◌∙◌, subst, arith, true≢false, unsigned_abs, if◌then◌else◌}
 use Rattle.std.specs.Option.{option_map_or, option_and_then}
 use Rattle.std.specs.Cmp.{first_so, second_so}
 use Rattle.std.proofs.lemmas.Int.{ints}
@@ -12,7 +12,7 @@ use Rattle.rsml_syntax.specs.declared.syntax.Decl.{Decl}
 use Rattle.rsml_syntax.specs.declared.syntax.Decl.TheVariants as decl
 use Rattle.rsml_syntax.specs.declared.want.Want.TheVariants as want
 use Rattle.rsml_syntax.specs.Names.{Name, same}
-use Rattle.rsml_syntax.specs.Globals.{Known, Globals, signed, constant_of, constant, amount_of, many, up_to, indices, meaning}
+use Rattle.rsml_syntax.specs.Globals.{Known, Globals, signed, constant_of, constant, amount_of, up_to, indices, meaning}
 use Rattle.rsml_syntax.specs.Comparisons.{index_number}
 use Rattle.rsml_syntax.specs.Breaches.{breach}
 use Rattle.rsml_syntax.specs.Scopes.{Scope, size_number, is_up_to, bound_of, is_name_index, is_indexed}
@@ -23,7 +23,7 @@ use Rattle.rsml_meaning.specs.Instances.{globals_of}
 use Rattle.rsml_meaning.specs.Truth.{within}
 use Rattle.one_run.proofs.Globals.{in_up_to}
 use Rattle.one_run.proofs.rules.Clean.{no_front, no_back, holds}
-use Rattle.one_run.proofs.rules.Mentions.{IsUsed, used_is}
+use Rattle.one_run.proofs.rules.Mentions.{used_is}
 
 -- Numbers.
 

@@ -1,30 +1,27 @@
 -- A mention of an event is an event instance, and a mention of a function a function instance.
-use Rattle.std.proofs.Common.{◌≡◌, ℕ, true, List, [], ◌∷◌, map, length, Option, Some, None, refl, sym, ap, ◌∙◌, subst, true≢false}
+use Rattle.std.proofs.Common.{◌≡◌, ℕ, true, length, Option, Some, None, refl, sym, ap, subst, true≢false}
 use Rattle.rsml_syntax.specs.declared.syntax.Spec.{Spec}
 use Rattle.rsml_syntax.specs.declared.syntax.Mention.{Mention}
 use Rattle.rsml_syntax.specs.declared.syntax.Amount.{Amount}
-use Rattle.rsml_syntax.specs.declared.syntax.Case.{Case}
 use Rattle.rsml_syntax.specs.declared.syntax.Decl.{Decl}
 use Rattle.rsml_syntax.specs.declared.syntax.Decl.TheVariants as decl
-use Rattle.rsml_syntax.specs.declared.want.Want.{Want}
 use Rattle.rsml_syntax.specs.declared.want.Want.TheVariants as want
-use Rattle.rsml_syntax.specs.Names.{Name}
-use Rattle.rsml_syntax.specs.Globals.{Known, Globals, size_of, name_of, indices}
+use Rattle.rsml_syntax.specs.Globals.{size_of, name_of, indices}
 use Rattle.rsml_syntax.specs.Comparisons.{index_number}
 use Rattle.rsml_syntax.specs.Scopes.{Scope, size_number, is_indexed}
 use Rattle.rsml_syntax.specs.Uses.{fits}
 use Rattle.rsml_syntax.specs.Declarations.{scope_at}
 use Rattle.rsml_syntax.specs.Rules.{whole, refused}
-use Rattle.rsml_meaning.specs.Words.{Each, IsOne, Instance, at, numbered}
+use Rattle.rsml_meaning.specs.Words.{IsOne, at}
 use Rattle.rsml_meaning.specs.Instances.{globals_of, instances, events_of}
 use Rattle.rsml_meaning.specs.Truth.{within, instance}
-use Rattle.rsml_meaning.specs.Interfaces.{FunctionInstance, functions_of, new_function}
+use Rattle.rsml_meaning.specs.Interfaces.{functions_of, new_function}
 use Rattle.one_run.specs.Scoped.{IsEvent, IsFunction}
 use Rattle.one_run.proofs.Lists.{each_one, one_map, one_flat_map}
 use Rattle.one_run.proofs.Globals.{Means}
 use Rattle.one_run.proofs.rules.Clean.{IsPlaced, each_placed, names_in}
 use Rattle.one_run.proofs.rules.Declared.{size_clean}
-use Rattle.one_run.proofs.rules.Mentions.{IsUsed, IsMentioned}
+use Rattle.one_run.proofs.rules.Mentions.{IsMentioned}
 use Rattle.one_run.proofs.rules.Sizes.{IsSized, size_is, index_is_in}
 
 -- the size of a declaration is a number from 1 on
