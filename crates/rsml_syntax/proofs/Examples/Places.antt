@@ -163,7 +163,7 @@ cut_off_is_none s e = by_body s.decls s.body e
   where
     by_body : (ds : List Decl) (b : Body) → tokens_of (record s { decls = ds; body = b }) ≡ cut_off → ⊥
     by_body [] Basic e = absurd (cc (ap (word_at 5) e))
-    by_body [] (All' _ children) e = absurd (cc (ap (word_at 5) e))
+    by_body [] (All' _ children) e = absurd (cc e)
     by_body [] (One' first _ children bs ts) e = children_go_on children bs ts (ap (drop 10) e)
     by_body (decls.Enumeration _ _ ∷ ds) b e = absurd (cc (ap (word_at 3) e))
     by_body (decls.Range _ _ _ ∷ ds) b e = absurd (cc (ap (word_at 3) e))
