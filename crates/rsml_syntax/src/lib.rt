@@ -6,6 +6,7 @@ mod no_memory;
 mod syntax;
 mod text;
 mod token;
+mod want;
 mod world;
 
 pub use list::List;
@@ -16,4 +17,5 @@ pub use syntax::{
 };
 pub use text::Text;
 pub use token::{MARKS, Mark, Placed, Token, WORDS, Word};
+pub use want::Want;
 pub use world::{Path, Step, World};
