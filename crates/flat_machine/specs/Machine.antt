@@ -1,5 +1,6 @@
 -- The machine of a flat specification: its inputs, and its groups with their members.
-use Rattle.std.specs.Prelude.{ℕ, suc, ◌+◌, Bool, true, false, ◌&&◌, List, [], ◌∷◌, map, length, flat_map, filter, Option, Some, None, if◌then◌else◌, ◌==◌, slice_index, unwrap_or}
+use Rattle.std.specs.Prelude.{ℕ, suc, ◌+◌, Bool, true, false, ◌&&◌, List, [], ◌∷◌, map, length, flat_map, filter, Option, Some, None, if◌then◌else◌, ◌==◌, slice_get, slice_index, slice_index_or, unwrap_or}
+use Rattle.std.specs.List.{list_any, list_all}
 use Rattle.std.specs.Option.{option_map_or}
 use Rattle.rsml_syntax.specs.declared.syntax.Spec.{Spec}
 use Rattle.rsml_syntax.specs.declared.syntax.Decl.{Decl}
@@ -10,6 +11,7 @@ use Rattle.rsml_syntax.specs.declared.syntax.Guard.{Guard}
 use Rattle.rsml_syntax.specs.declared.syntax.Guard.TheVariants as guards
 use Rattle.rsml_syntax.specs.declared.syntax.Row.{Row}
 use Rattle.rsml_syntax.specs.declared.syntax.Cell.{Cell}
+use Rattle.rsml_syntax.specs.declared.syntax.Cell.TheVariants as cells
 use Rattle.rsml_syntax.specs.declared.syntax.Phrase.{Phrase}
 use Rattle.rsml_syntax.specs.declared.syntax.Phrase.TheVariants as phrases
 use Rattle.rsml_syntax.specs.declared.syntax.Simple.{Simple}
@@ -17,11 +19,11 @@ use Rattle.rsml_syntax.specs.declared.syntax.Simple.TheVariants as simples
 use Rattle.rsml_syntax.specs.declared.syntax.Sum.{Sum}
 use Rattle.rsml_syntax.specs.Names.{Name, same}
 use Rattle.rsml_syntax.specs.Globals.{Globals, globals}
-use Rattle.rsml_syntax.specs.Tables.{TableRow, table_truth}
+use Rattle.rsml_syntax.specs.Tables.{allows, below}
 use Rattle.rsml_syntax.specs.Parts.{children_of, transitions_of}
 use Rattle.flat_machine.specs.Flat.{enumeration, value_place, plain}
 
--- INPUTS AND EVENTS
+-- INPUTS
 
 -- An input, and the names of its values.
 pub record FlatInput : Type 0 where
@@ -42,14 +44,6 @@ inputs_in g decls = flat_map (inputs_of g) decls
 abbrev pub inputs : Spec → List FlatInput
 inputs s = inputs_in (globals s.decls) s.decls
 
-abbrev pub event_names_of : Decl → List Name
-event_names_of (decl.Event name _) = name ∷ []
-event_names_of _ = []
-
--- the events, in order
-abbrev pub event_names : List Decl → List Name
-event_names decls = flat_map event_names_of decls
-
 -- the place of the first input of this name, and their number where there is none
 abbrev pub input_place : Name → List FlatInput → ℕ
 input_place name [] = 0
@@ -63,15 +57,15 @@ pub record FlatRow : Type 0 where
   pub value : ℕ
   pub cells : List Cell
 
-abbrev pub name_or_empty : Option Name → Name
-name_or_empty name = unwrap_or name []
+abbrev pub name_of_sum : Sum → Name
+name_of_sum sum = unwrap_or (plain sum) []
 
 abbrev pub left_of : Phrase → Name
-left_of (phrases.Plain (simples.Compare left _ _)) = name_or_empty (plain left)
+left_of (phrases.Plain (simples.Compare left _ _)) = name_of_sum left
 left_of _ = []
 
 abbrev pub right_of : Phrase → Name
-right_of (phrases.Plain (simples.Compare _ _ right)) = name_or_empty (plain right)
+right_of (phrases.Plain (simples.Compare _ _ right)) = name_of_sum right
 right_of _ = []
 
 abbrev pub new_row : Globals → List FlatInput → Row → FlatRow
@@ -87,11 +81,20 @@ rows_of g xs (guards.Table rows) = Some (map (new_row g xs) rows)
 abbrev pub Numbers : Type 0
 Numbers = List ℕ
 
-abbrev pub row_truth : Numbers → FlatRow → TableRow
-row_truth ns row = (slice_index ns row.input == row.value, row.cells)
+-- a row is as a column, by its place, asks
+abbrev pub row_allows : Numbers → ℕ → FlatRow → Bool
+row_allows ns place row = allows (slice_index_or row.cells place cells.Dot) (slice_index ns row.input == row.value)
 
+abbrev pub column_truth : Numbers → List FlatRow → ℕ → Bool
+column_truth ns rows place = list_all (row_allows ns place) rows
+
+abbrev pub width_of : List FlatRow → ℕ
+width_of [] = 0
+width_of (row ∷ rows) = length row.cells
+
+-- some column is true
 abbrev pub rows_truth : Numbers → List FlatRow → Bool
-rows_truth ns rows = table_truth (map (row_truth ns) rows)
+rows_truth ns rows = list_any (column_truth ns rows) (below (width_of rows))
 
 abbrev pub guard_truth : Numbers → Option (List FlatRow) → Bool
 guard_truth ns None = true
@@ -105,13 +108,9 @@ pub record FlatMember : Type 0 where
   pub target : Option Name
   pub rows : Option (List FlatRow)
 
-abbrev pub first_name : List Name → Name
-first_name [] = []
-first_name (name ∷ _) = name
-
 abbrev pub target_of : Option (List Name) → Option Name
 target_of None = None
-target_of (Some path) = Some (first_name path)
+target_of (Some path) = slice_get path 0
 
 abbrev pub new_member : Globals → List FlatInput → ℕ → Transition → FlatMember
 new_member g xs ordinal t = record { ordinal = ordinal; target = target_of t.target; rows = rows_of g xs t.guard }
@@ -143,17 +142,22 @@ group_if child event (m ∷ ms) = new_group child event (m ∷ ms) ∷ []
 abbrev pub group_at : Globals → List FlatInput → List Transition → Name → Name → List FlatGroup
 group_at g xs ts child event = group_if child event (members_from g xs child event 1 ts)
 
+-- the groups of a child with the event that a declaration declares
+abbrev pub groups_on : Globals → List FlatInput → List Transition → Name → Decl → List FlatGroup
+groups_on g xs ts child (decl.Event event _) = group_at g xs ts child event
+groups_on g xs ts child _ = []
+
 -- the groups of a child
-abbrev pub groups_at : Globals → List FlatInput → List Transition → List Name → Name → List FlatGroup
-groups_at g xs ts events child = flat_map (group_at g xs ts child) events
+abbrev pub groups_at : Globals → List FlatInput → List Transition → List Decl → StateDecl → List FlatGroup
+groups_at g xs ts decls c = flat_map (groups_on g xs ts c.name) decls
 
 -- the groups of these children
-abbrev pub groups_in : Globals → List FlatInput → List Transition → List Name → List StateDecl → List FlatGroup
-groups_in g xs ts events children = flat_map (λ c. groups_at g xs ts events c.name) children
+abbrev pub groups_in : Globals → List FlatInput → List Transition → List Decl → List StateDecl → List FlatGroup
+groups_in g xs ts decls children = flat_map (groups_at g xs ts decls) children
 
 -- the groups, in order
 abbrev pub flat_groups : Spec → List FlatGroup
-flat_groups s = groups_in (globals s.decls) (inputs s) (transitions_of s.body) (event_names s.decls) (children_of s.body)
+flat_groups s = groups_in (globals s.decls) (inputs s) (transitions_of s.body) s.decls (children_of s.body)
 
 -- how many of these members are enabled
 abbrev pub enabled_in : Numbers → List FlatMember → List FlatMember

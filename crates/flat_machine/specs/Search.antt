@@ -3,6 +3,8 @@ use Rattle.std.specs.Prelude.{◌≡◌, ℕ, ◌<◌, ◌⊎◌, Bool, true, fa
 use Rattle.flat_machine.specs.Machine.{Numbers, FlatInput, FlatMember, enabled_in}
 use Rattle.flat_machine.specs.declared.search.Failure.{Failure}
 use Rattle.flat_machine.specs.declared.search.Failure.TheVariants as failures
+use Rattle.flat_machine.specs.declared.verdict.Verdict.{Verdict}
+use Rattle.flat_machine.specs.declared.verdict.Verdict.TheVariants as verdicts
 
 -- how many values each input has
 abbrev pub sizes : List FlatInput → List ℕ
@@ -21,8 +23,8 @@ AreBefore _ _ = ⊥
 
 -- so many enabled members are this failure
 abbrev pub is_failure : Failure → ℕ → Bool
-is_failure failures.None count = count == 0
-is_failure failures.Two count = nat_le 2 count
+is_failure failures.Missing count = count == 0
+is_failure failures.Double count = nat_le 2 count
 
 abbrev pub fails : Failure → List FlatMember → Numbers → Bool
 fails failure ms ns = is_failure failure (length (enabled_in ns ms))
@@ -38,3 +40,10 @@ pub record IsLeastFrom (failure : Failure) (ms : List FlatMember) (sizes : List 
   pub are_numbers : AreNumbers sizes rest
   pub failing : fails failure ms (front ++ rest) ≡ true
   pub before : (ns : Numbers) → AreNumbers sizes ns → AreBefore ns rest → fails failure ms (front ++ ns) ≡ false
+
+-- What is found of members: exactly one is enabled in all values; or these are the least values in which none is; or none is
+-- nowhere, and these are the least in which two are.
+abbrev pub IsFound : List ℕ → List FlatMember → Verdict → Type 0
+IsFound sizes ms verdicts.Sound = (ns : Numbers) → AreNumbers sizes ns → length (enabled_in ns ms) ≡ 1
+IsFound sizes ms (verdicts.Missing found) = IsLeastFrom failures.Missing ms sizes [] found.items
+IsFound sizes ms (verdicts.Double found) = Passes failures.Missing ms sizes [] × IsLeastFrom failures.Double ms sizes [] found.items

@@ -2,7 +2,10 @@
 #![tactic(auto)]
 
 mod body;
+mod build;
 mod flat;
 mod lookup;
 mod machine;
 mod search;
+mod truth;
+mod verdict;
