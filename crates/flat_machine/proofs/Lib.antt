@@ -1,3 +1,4 @@
+pub mod Basics
 pub mod Bodies
 pub mod Columns
 pub mod Flats
@@ -5,3 +6,4 @@ pub mod Least
 pub mod Lookups
 pub mod Loops
 pub mod Products
+pub mod Puts

@@ -1,3 +1,5 @@
+pub mod Beside
 pub mod Flat
+pub mod FlatTexts
 pub mod Machine
 pub mod Search

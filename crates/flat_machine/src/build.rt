@@ -158,3 +158,49 @@ fn members<'a>(alloc: Global, whole: &Whole<'a>, child: &[u8], event: &[u8]) -> 
     }
     Ok(found)
 }
+
+/// Puts the group of a child with an event behind the others, if it has members.
+fn put_group<'a>(alloc: Global, whole: &Whole<'a>, child: &'a Text, event: &'a Text, groups: &mut Vec<FlatGroup<'a>>) -> Result<(), NoMemory>
+    ensures { OnOk result (groups.new.items ≡ groups.old.items ++ machine.group_at (known.globals whole.now.decls.now) whole.now.inputs.items whole.now.transitions.now child.now event.now) }
+{
+    let members = members(alloc, whole, child.bytes(), event.bytes())?;
+    if !members.is_empty() {
+        groups.push(FlatGroup {
+            child,
+            event,
+            members,
+        })?;
+    }
+    Ok(())
+}
+
+/// Puts the groups of a child with the event that a declaration declares behind the others.
+fn put_groups_on<'a>(alloc: Global, whole: &Whole<'a>, child: &'a Text, decl: &'a Decl, groups: &mut Vec<FlatGroup<'a>>) -> Result<(), NoMemory>
+    ensures { OnOk result (groups.new.items ≡ groups.old.items ++ machine.groups_on (known.globals whole.now.decls.now) whole.now.inputs.items whole.now.transitions.now child.now decl.now) }
+{
+    match decl {
+        Decl::Event { name, .. } => put_group(alloc, whole, child, name, groups),
+        _ => Ok(()),
+    }
+}
+
+/// Puts the groups of a child behind the others.
+fn put_groups_at<'a>(alloc: Global, whole: &Whole<'a>, child: &'a StateDecl, groups: &mut Vec<FlatGroup<'a>>) -> Result<(), NoMemory>
+    ensures { OnOk result (groups.new.items ≡ groups.old.items ++ machine.groups_at (known.globals whole.now.decls.now) whole.now.inputs.items whole.now.transitions.now whole.now.decls.now child.now) }
+{
+    for decl in whole.decls {
+        put_groups_on(alloc, whole, &child.name, decl, groups)?;
+    }
+    Ok(())
+}
+
+/// The groups of these children.
+fn groups_in<'a>(alloc: Global, whole: &Whole<'a>, children: &'a [StateDecl]) -> Result<Vec<FlatGroup<'a>>, NoMemory>
+    ensures { IfOk result (λ v. v.items ≡ machine.groups_in (known.globals whole.now.decls.now) whole.now.inputs.items whole.now.transitions.now whole.now.decls.now children.now) }
+{
+    let mut groups = Vec::new(alloc);
+    for child in children {
+        put_groups_at(alloc, whole, child, &mut groups)?;
+    }
+    Ok(groups)
+}

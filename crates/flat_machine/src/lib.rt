@@ -7,5 +7,6 @@ mod flat;
 mod lookup;
 mod machine;
 mod search;
+mod text;
 mod truth;
 mod verdict;

@@ -68,3 +68,23 @@ impl<'a> Model for FlatGroup<'a> {
 
     ghost view = { λ g. record { child = g.child.now; event = g.event.now; members = g.members.items } };
 }
+
+impl<'a> FlatGroup<'a> {
+    pub fn child(&self) -> &[u8]
+        ensures { result.now ≡ self.now.child }
+    {
+        self.child.bytes()
+    }
+
+    pub fn event(&self) -> &[u8]
+        ensures { result.now ≡ self.now.event }
+    {
+        self.event.bytes()
+    }
+
+    pub fn members(&self) -> &[FlatMember<'a>]
+        ensures { result.now ≡ self.now.members }
+    {
+        self.members.as_slice()
+    }
+}
