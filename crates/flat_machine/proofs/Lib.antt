@@ -1,9 +1,11 @@
 pub mod Basics
 pub mod Bodies
 pub mod Columns
+pub mod Declared
 pub mod Flats
 pub mod Least
 pub mod Lookups
 pub mod Loops
+pub mod Previous
 pub mod Products
 pub mod Puts
