@@ -31,6 +31,7 @@ entered target c = if is_proper_prefix c.path target then (slice_index_or target
 abbrev pub given : Path → Path → Component → Option ℕ
 given moving target c = if is_prefix moving c.path then Some (child_place c (entered target c)) else None
 
+-- the place of a component's child after a move, that of before where the move gives none
 abbrev pub given_or_kept : Path → Path → Component × ℕ → ℕ
 given_or_kept moving target c = unwrap_or (given moving target c.0) c.1
 

@@ -25,10 +25,12 @@ abbrev pub is_chain : Spec → List Instance → Bool
 is_chain s [] = false
 is_chain s (e ∷ es) = is_external s e && linked s (e ∷ es)
 
+-- the first event of the list is this one
 abbrev pub begins_with : Instance → List Instance → Bool
 begins_with x [] = false
 begins_with x (e ∷ es) = same_instance x e
 
+-- the last event of the list is this one
 abbrev pub ends_with : Instance → List Instance → Bool
 ends_with x [] = false
 ends_with x (e ∷ []) = same_instance x e

@@ -1,11 +1,13 @@
 -- The lines of an event file, when it is well-formed, and its first fault.
 use Rattle.std.specs.Prelude.{◌≡◌, ℕ, suc, ◌+◌, ◌≤◌, Bool, true, false, ◌&&◌, List, [], ◌∷◌, length, Option, Some, None, if◌then◌else◌, ◌==◌, nat_lt, nat_le, is_none, filter_map, take_while}
+use Rattle.std.specs.Str.{byte}
 use Rattle.rsml_syntax.specs.declared.syntax.Spec.{Spec}
 use Rattle.rsml_meaning.specs.Words.{first_some, Each}
-use Rattle.rsml_meaning.specs.EventLines.{Bytes, pieces, is_skipped, LineRule, Message, Reading, breaks, tells, read_line}
+use Rattle.rsml_meaning.specs.EventLines.{Bytes, pieces, is_skipped, LineRule, Message, Outcome, breaks, tells, read_line}
 
 -- Lines.
 
+-- the pieces without an empty one at the end
 abbrev pub without_empty_last : List Bytes → List Bytes
 without_empty_last [] = []
 without_empty_last ([] ∷ []) = []
@@ -13,7 +15,7 @@ without_empty_last (line ∷ lines) = line ∷ without_empty_last lines
 
 -- what stands between two LF, before the first, and after the last where that is not empty
 abbrev pub lines : Bytes → List Bytes
-lines file = without_empty_last (pieces (λ c. c == 10) file)
+lines file = without_empty_last (pieces (λ c. c == byte "\n") file)
 
 -- A line of a file: its number, counted from 1, the offset of its first byte, and its bytes without the LF.
 pub record Line : Type 0 where
@@ -21,10 +23,12 @@ pub record Line : Type 0 where
   pub start : ℕ
   pub bytes : Bytes
 
+-- lines with their numbers and offsets, from a number and an offset on
 abbrev pub placed_from : ℕ → ℕ → List Bytes → List Line
 placed_from number start [] = []
 placed_from number start (line ∷ lines) = record { number = number; start = start; bytes = line } ∷ placed_from (suc number) (start + length line + 1) lines
 
+-- the lines of a file, with their numbers and offsets
 abbrev pub lines_of : Bytes → List Line
 lines_of file = placed_from 1 0 (lines file)
 
@@ -35,20 +39,20 @@ end_of line = line.start + length line.bytes + 1
 -- the bytes without one CR at the end
 abbrev pub without_return : Bytes → Bytes
 without_return [] = []
-without_return (c ∷ []) = if c == 13 then [] else c ∷ []
+without_return (c ∷ []) = if c == byte "\r" then [] else c ∷ []
 without_return (c ∷ d ∷ cs) = c ∷ without_return (d ∷ cs)
 
 -- what a line says; nothing where it is skipped
-abbrev pub reading : Spec → Line → Option Reading
-reading s line = if is_skipped (without_return line.bytes) then None else Some (read_line s (without_return line.bytes))
+abbrev pub outcome : Spec → Line → Option Outcome
+outcome s line = if is_skipped (without_return line.bytes) then None else Some (read_line s (without_return line.bytes))
 
 -- the rule that a line breaks
 abbrev pub rule_broken : Spec → Line → Option LineRule
-rule_broken s line = elim (reading s line) [ Some (breaks rule) ↦ Some rule | _ ↦ None ]
+rule_broken s line = elim (outcome s line) [ Some (breaks rule) ↦ Some rule | _ ↦ None ]
 
 -- the event that a line tells
 abbrev pub message : Spec → Line → Option Message
-message s line = elim (reading s line) [ Some (tells m) ↦ Some m | _ ↦ None ]
+message s line = elim (outcome s line) [ Some (tells m) ↦ Some m | _ ↦ None ]
 
 -- Faults.
 
@@ -73,6 +77,7 @@ pub data FileFault : Type 0 where
   broken_line : ℕ → LineRule → FileFault
   long_file : FileFault
 
+-- the line has more bytes than it may
 abbrev pub is_long : Limits → Line → Bool
 is_long limits line = nat_lt limits.line (length line.bytes)
 

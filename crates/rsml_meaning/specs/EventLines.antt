@@ -1,7 +1,7 @@
 -- What an event line says, and which of the rules E1 to E7 it breaks.
 use Rattle.std.specs.Prelude.{ℕ, ◌+◌, ◌-◌, ◌*◌, Bool, true, false, not, ◌&&◌, ◌||◌, List, [], ◌∷◌, ◌++◌, map, length, take, drop, Option, Some, None, if◌then◌else◌, ℤ, pos, neg_ℤ, ◌==◌, nat_eq, nat_le, fold, filter, zip, option_map, option_and_then, codes}
 use Rattle.std.specs.List.{list_all, starts_with, before_first}
-use Rattle.std.specs.Str.{is_utf8}
+use Rattle.std.specs.Str.{byte, all_ascii_digits, is_utf8}
 use Rattle.rsml_syntax.specs.declared.syntax.Spec.{Spec}
 use Rattle.rsml_syntax.specs.declared.syntax.Amount.{Amount}
 use Rattle.rsml_syntax.specs.declared.syntax.Mention.{Mention}
@@ -9,9 +9,10 @@ use Rattle.rsml_syntax.specs.declared.syntax.Decl.TheVariants as decl
 use Rattle.rsml_syntax.specs.Names.{Name, same, place_of}
 use Rattle.rsml_syntax.specs.Globals.{Globals, Known, meaning, many}
 use Rattle.rsml_meaning.specs.Instances.{globals_of}
-use Rattle.rsml_meaning.specs.Cells.{Kind, input_kind, is_of}
+use Rattle.rsml_meaning.specs.Cells.{InputType, input_type, is_of}
 use Rattle.rsml_meaning.specs.Interfaces.{ReceiveInstance, new_receive}
 
+-- what a file or a line holds
 abbrev pub Bytes : Type 0
 Bytes = List ℕ
 
@@ -29,8 +30,9 @@ pieces parts (c ∷ cs) = if parts c then [] ∷ pieces parts cs else before_pie
 
 -- a space or a tab
 abbrev pub is_blank : ℕ → Bool
-is_blank c = c == 32 || c == 9
+is_blank c = c == byte " " || c == byte "\t"
 
+-- there is no byte
 abbrev pub is_empty : Bytes → Bool
 is_empty [] = true
 is_empty (c ∷ cs) = false
@@ -42,27 +44,25 @@ words line = filter (λ piece. not (is_empty piece)) (pieces is_blank line)
 -- a line that is empty but for spaces and tabs, or whose first other byte is `#`
 abbrev pub is_skipped : Bytes → Bool
 is_skipped [] = true
-is_skipped (c ∷ cs) = if is_blank c then is_skipped cs else c == 35
+is_skipped (c ∷ cs) = if is_blank c then is_skipped cs else c == byte "#"
 
 -- Numbers and values.
 
-abbrev pub is_digit : ℕ → Bool
-is_digit c = nat_le 48 c && nat_le c 57
-
+-- one or more digits
 abbrev pub is_digits : Bytes → Bool
-is_digits text = not (is_empty text) && list_all is_digit text
+is_digits text = not (is_empty text) && all_ascii_digits text
 
 -- the number that one or more digits write; none for another text
 abbrev pub digits_number : Bytes → Option ℕ
-digits_number text = if is_digits text then Some (fold (λ n c. n * 10 + (c - 48)) 0 text) else None
+digits_number text = if is_digits text then Some (fold (λ n c. n * 10 + (c - byte "0")) 0 text) else None
 
 -- the same with `-` before the digits or not
 abbrev pub signed_number : Bytes → Option ℤ
 signed_number [] = None
-signed_number (c ∷ cs) = if c == 45 then option_map (λ n. neg_ℤ (pos n)) (digits_number cs) else option_map pos (digits_number (c ∷ cs))
+signed_number (c ∷ cs) = if c == byte "-" then option_map (λ n. neg_ℤ (pos n)) (digits_number cs) else option_map pos (digits_number (c ∷ cs))
 
 -- the number of a value, by the form that the type asks for: digits for a range, one of the names for an enumeration
-abbrev pub value_number : Kind × Bytes → Option ℤ
+abbrev pub value_number : InputType × Bytes → Option ℤ
 value_number x = elim x.0.names [ [] ↦ signed_number x.1 | n ∷ ns ↦ option_map pos (place_of x.1 (n ∷ ns)) ]
 
 -- all of them, or none where one is missing
@@ -79,6 +79,7 @@ pub record Interface : Type 0 where
   pub inputs : List Mention
   pub raised : Mention
 
+-- what is known of a receive
 abbrev pub interface_by : Known → Option Interface
 interface_by k = elim k.decl [ decl.Receive _ size inputs raised ↦ Some (record { size = size; inputs = inputs; raised = raised }) | _ ↦ None ]
 
@@ -88,7 +89,7 @@ interface g name = option_and_then interface_by (meaning g name)
 
 -- the first word up to its first `[`, or whole
 abbrev pub name_part : Bytes → Bytes
-name_part word = before_first (λ c. c == 91) word
+name_part word = before_first (λ c. c == byte "[") word
 
 -- the rest of the first word
 abbrev pub index_part : Bytes → Bytes
@@ -116,6 +117,7 @@ pub record Fields : Type 0 where
   pub values : List Bytes
   pub more : List Bytes
 
+-- one more value before the others
 abbrev pub add_value : Bytes → Fields → Fields
 add_value value f = record f { values = value ∷ f.values }
 
@@ -151,35 +153,36 @@ pub record Message : Type 0 where
   pub numbers : List ℤ
 
 -- what a line comes to: the lowest rule that it breaks, or an event
-pub data Reading : Type 0 where
-  breaks : LineRule → Reading
-  tells : Message → Reading
+pub data Outcome : Type 0 where
+  breaks : LineRule → Outcome
+  tells : Message → Outcome
 
 -- the values are read by the types of their inputs
-abbrev pub read_values : List Kind → ReceiveInstance → List Bytes → Reading
-read_values kinds receive values = elim (all_some (map value_number (zip kinds values))) [
+abbrev pub read_values : List InputType → ReceiveInstance → List Bytes → Outcome
+read_values types receive values = elim (all_some (map value_number (zip types values))) [
   | None ↦ breaks E6
-  | Some numbers ↦ if list_all (λ x. is_of x.0 x.1) (zip kinds numbers) then tells (record { receive = receive; numbers = numbers }) else breaks E7
+  | Some numbers ↦ if list_all (λ x. is_of x.0 x.1) (zip types numbers) then tells (record { receive = receive; numbers = numbers }) else breaks E7
 ]
 
 -- the words after the first are the fields, and no more
-abbrev pub read_fields : Globals → List Name → ReceiveInstance → List Bytes → Reading
+abbrev pub read_fields : Globals → List Name → ReceiveInstance → List Bytes → Outcome
 read_fields g inputs receive words = elim (fields inputs words) [
   | None ↦ breaks E4
-  | Some f ↦ elim f.more [ [] ↦ read_values (map (input_kind g) inputs) receive f.values | word ∷ more ↦ breaks E5 ]
+  | Some f ↦ elim f.more [ [] ↦ read_values (map (input_type g) inputs) receive f.values | word ∷ more ↦ breaks E5 ]
 ]
 
 -- the first word tells the instance of a receive
-abbrev pub read_instance : Globals → Bytes → Interface → List Bytes → Reading
+abbrev pub read_instance : Globals → Bytes → Interface → List Bytes → Outcome
 read_instance g word i words = elim (index_told g i.size (index_part word)) [
   | None ↦ breaks E3
   | Some index ↦ read_fields g (map (λ m. m.name) i.inputs) (new_receive g (name_part word) i.inputs i.raised index) words
 ]
 
-abbrev pub read_words : Globals → List Bytes → Reading
+-- the first word is the name of a receive, up to a `[`
+abbrev pub read_words : Globals → List Bytes → Outcome
 read_words g [] = breaks E2
 read_words g (word ∷ words) = elim (interface g (name_part word)) [ None ↦ breaks E2 | Some i ↦ read_instance g word i words ]
 
 -- what a line without its line end comes to, where it is not skipped
-abbrev pub read_line : Spec → Bytes → Reading
+abbrev pub read_line : Spec → Bytes → Outcome
 read_line s line = if is_utf8 line then read_words (globals_of s) (words line) else breaks E1

@@ -17,11 +17,13 @@ pub data Group : Type 0 where
   send : Instance → Instance → Group
   function : FunctionInstance → Group
 
+-- a transition, a case of a send, or a case of a function
 pub data Member : Type 0 where
   transition : TransitionInstance → Member
   send_case : SendCaseInstance → Member
   case : Instance → ℕ × Case → Member
 
+-- a transition has an active source and a true guard, a case has a true guard
 abbrev pub enabled : View → Member → Bool
 enabled v (transition t) = is_enabled v t
 enabled v (send_case c) = is_sending v c
@@ -33,9 +35,11 @@ members s (state path e) = map transition (line s e path)
 members s (send x e) = map send_case (filter (is_case x e) (send_cases s))
 members s (function f) = map (case f.function) f.cases
 
+-- the groups of a state, one for each event of a transition from it
 abbrev pub state_groups : Spec → Path → List Group
 state_groups s path = map (state path) (filter (λ e. list_any (is_from path e) (transitions s)) (events s))
 
+-- the groups of a send instance, one for each event of a case of it
 abbrev pub send_groups : Spec → Instance → List Group
 send_groups s x = map (send x) (filter (λ e. list_any (is_case x e) (send_cases s)) (events s))
 

@@ -1,24 +1,20 @@
 -- The instances of states, components and events, in the order of the text; arrays by rising index.
-use Rattle.std.specs.Prelude.{ℕ, List, [], ◌∷◌, ◌++◌, map, Option, Some, None, flat_map, filter_map}
+use Rattle.std.specs.Prelude.{List, [], ◌∷◌, ◌++◌, map, Option, Some, None, flat_map, filter_map}
 use Rattle.rsml_syntax.specs.declared.syntax.Spec.{Spec}
 use Rattle.rsml_syntax.specs.declared.syntax.Decl.{Decl}
 use Rattle.rsml_syntax.specs.declared.syntax.Decl.TheVariants as decl
 use Rattle.rsml_syntax.specs.declared.syntax.Amount.{Amount}
 use Rattle.rsml_syntax.specs.declared.syntax.Bus.{Bus}
 use Rattle.rsml_syntax.specs.declared.syntax.Transition.{Transition}
+use Rattle.rsml_syntax.specs.declared.syntax.StateDecl.{StateDecl}
 use Rattle.rsml_syntax.specs.declared.syntax.Body.{Body, Basic, One', All', Row_of-StateDecl, end_of-StateDecl, more_of-StateDecl}
 use Rattle.rsml_syntax.specs.Names.{Name}
-use Rattle.rsml_syntax.specs.Globals.{Globals, globals, many}
-use Rattle.rsml_meaning.specs.Words.{Instance, at, Path, child_path, upto}
+use Rattle.rsml_syntax.specs.Globals.{Globals, globals, indices}
+use Rattle.rsml_meaning.specs.Words.{Instance, at, Path, child_path}
 
 -- the global names of a specification
 abbrev pub globals_of : Spec → Globals
 globals_of s = globals s.decls
-
--- the indices of what is declared with this size: 1 to the size, or 0 alone where there is none
-abbrev pub indices : Globals → Option Amount → List ℕ
-indices g None = 0 ∷ []
-indices g (Some amount) = upto (many g (Some amount))
 
 -- the instances of a name that is declared with this size
 abbrev pub instances : Globals → Name → Option Amount → List Instance
@@ -39,6 +35,7 @@ pub record State : Type 0 where
   pub path : Path
   pub component : Option Component
 
+-- a component of its parts
 abbrev pub new_component : Path → Name → List Name → List Bus → List Transition → Component
 new_component path first children buses transitions =
     record { path = path; first = first; children = children; buses = buses; transitions = transitions }
@@ -53,6 +50,7 @@ abbrev pub component_of : Body → Path → Option Component
 component_of (One' first _ children buses transitions) path = Some (new_component path first (row_names children) buses transitions)
 component_of _ path = None
 
+-- the state instance with this body at a path
 abbrev pub new_state : Body → Path → State
 new_state body path = record { path = path; component = component_of body path }
 
@@ -74,6 +72,10 @@ abbrev mutual
 abbrev pub subtree : Globals → Body → Path → List State
 subtree g body path = new_state body path ∷ inside g body path
 
+-- the states that a child makes: each instance before what is inside it, an array once for each index
+abbrev pub child_states : Globals → Path → StateDecl → List State
+child_states g path child = flat_map (λ i. subtree g child.body (child_path path (at child.name i))) (indices g child.size)
+
 -- the state instances
 abbrev pub states : Spec → List State
 states s = subtree (globals_of s) s.body (at s.top 0 ∷ [])
@@ -84,6 +86,7 @@ components s = filter_map (λ x. x.component) (states s)
 
 -- Events.
 
+-- the events that a declaration makes
 abbrev pub events_of : Globals → Decl → List Instance
 events_of g (decl.Event name size) = instances g name size
 events_of g _ = []

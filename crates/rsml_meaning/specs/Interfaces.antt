@@ -1,17 +1,18 @@
--- The instances of receives, of sends with their cases, and of functions with theirs.
+-- The instances of receives, of sends with their cases, and of macros and functions.
 use Rattle.std.specs.Prelude.{ℕ, Bool, ◌&&◌, List, [], map, flat_map}
 use Rattle.rsml_syntax.specs.declared.syntax.Spec.{Spec}
 use Rattle.rsml_syntax.specs.declared.syntax.Decl.{Decl}
 use Rattle.rsml_syntax.specs.declared.syntax.Decl.TheVariants as decl
 use Rattle.rsml_syntax.specs.declared.syntax.Mention.{Mention}
 use Rattle.rsml_syntax.specs.declared.syntax.Guard.{Guard}
+use Rattle.rsml_syntax.specs.declared.syntax.Row.{Row}
 use Rattle.rsml_syntax.specs.declared.syntax.Case.{Case}
 use Rattle.rsml_syntax.specs.declared.syntax.SendCase.{SendCase}
 use Rattle.rsml_syntax.specs.declared.syntax.Answer.{Answer}
 use Rattle.rsml_syntax.specs.Names.{Name}
-use Rattle.rsml_syntax.specs.Globals.{Globals}
+use Rattle.rsml_syntax.specs.Globals.{Globals, indices}
 use Rattle.rsml_meaning.specs.Words.{Instance, at, same_instance, numbered}
-use Rattle.rsml_meaning.specs.Instances.{globals_of, indices, instances}
+use Rattle.rsml_meaning.specs.Instances.{globals_of, instances}
 use Rattle.rsml_meaning.specs.Truth.{View, within, instance, guard}
 
 -- Receives.
@@ -22,10 +23,12 @@ pub record ReceiveInstance : Type 0 where
   pub inputs : List Instance
   pub raised : Instance
 
+-- the receive instance at an index
 abbrev pub new_receive : Globals → Name → List Mention → Mention → ℕ → ReceiveInstance
 new_receive g name inputs raised i =
     record { receive = at name i; inputs = map (instance g (within i)) inputs; raised = instance g (within i) raised }
 
+-- the receive instances that a declaration makes
 abbrev pub receives_of : Globals → Decl → List ReceiveInstance
 receives_of g (decl.Receive name size inputs raised) = map (new_receive g name inputs raised) (indices g size)
 receives_of g _ = []
@@ -36,6 +39,7 @@ receives s = flat_map (receives_of (globals_of s)) s.decls
 
 -- Sends.
 
+-- the send instances that a declaration makes
 abbrev pub sends_of : Globals → Decl → List Instance
 sends_of g (decl.Send name size fields cases) = instances g name size
 sends_of g _ = []
@@ -53,10 +57,12 @@ pub record SendCaseInstance : Type 0 where
   pub guard : Guard
   pub answer : Answer
 
+-- a case, with its place, of the send instance at an index
 abbrev pub new_send_case : Globals → Name → List Name → ℕ → ℕ × SendCase → SendCaseInstance
 new_send_case g name fields i c =
     record { send = at name i; fields = fields; ordinal = c.0; event = instance g (within i) c.1.trigger; guard = c.1.guard; answer = c.1.answer }
 
+-- the cases of the send instances that a declaration makes
 abbrev pub send_cases_of : Globals → Decl → List SendCaseInstance
 send_cases_of g (decl.Send name size fields cases) = flat_map (λ i. map (new_send_case g name fields i) (numbered cases)) (indices g size)
 send_cases_of g _ = []
@@ -80,9 +86,11 @@ pub record FunctionInstance : Type 0 where
   pub function : Instance
   pub cases : List (ℕ × Case)
 
+-- the function instance at an index
 abbrev pub new_function : Name → List Case → ℕ → FunctionInstance
 new_function name cases i = record { function = at name i; cases = numbered cases }
 
+-- the function instances that a declaration makes
 abbrev pub functions_of : Globals → Decl → List FunctionInstance
 functions_of g (decl.Function name size cases) = map (new_function name cases) (indices g size)
 functions_of g _ = []
@@ -90,3 +98,19 @@ functions_of g _ = []
 -- the function instances
 abbrev pub functions : Spec → List FunctionInstance
 functions s = flat_map (functions_of (globals_of s)) s.decls
+
+-- Macros and functions.
+
+-- an instance of a macro with its table, or of a function with its cases
+pub data Definition : Type 0 where
+  macro_table : Instance → List Row → Definition
+  function_cases : FunctionInstance → Definition
+
+-- the instances of macros and functions that a declaration makes
+abbrev pub definitions_of : Globals → Decl → List Definition
+definitions_of g (decl.Macro name size rows) = map (λ i. macro_table (at name i) rows) (indices g size)
+definitions_of g d = map function_cases (functions_of g d)
+
+-- the instances of macros and functions, in one list
+abbrev pub definitions : Spec → List Definition
+definitions s = flat_map (definitions_of (globals_of s)) s.decls

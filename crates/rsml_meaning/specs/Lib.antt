@@ -6,8 +6,10 @@ pub mod EventFiles
 pub mod EventLines
 pub mod Findings
 pub mod Groups
+pub mod InOrder
 pub mod Instances
 pub mod Interfaces
+pub mod Laws
 pub mod Report
 pub mod Runs
 pub mod Steps
@@ -17,4 +19,3 @@ pub mod Transitions
 pub mod Truth
 pub mod Words
 pub mod Worlds
-pub mod Written

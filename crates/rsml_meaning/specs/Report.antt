@@ -1,12 +1,12 @@
 -- The report on a specification.
-use Rattle.std.specs.Prelude.{◌≡◌, ℕ, ◌+◌, Bool, true, false, List, [], ◌∷◌, ◌++◌, length, Option, Some, None, if◌then◌else◌, ℤ, IsTrue, ◌↔◌, ◌==◌, is_some, flat_map, filter, zip, position, unwrap_or, codes, decimal}
+use Rattle.std.specs.Prelude.{◌≡◌, ℕ, ◌+◌, Bool, true, false, List, [], ◌∷◌, ◌++◌, length, Option, Some, None, if◌then◌else◌, ℤ, IsTrue, ◌↔◌, ◌==◌, is_some, flat_map, filter, zip, unwrap_or, codes, decimal}
 use Rattle.std.specs.List.{AllZip, items_where_true}
 use Rattle.std.specs.Ordering.{nat_cmp, int_eq}
 use Rattle.std.specs.Cmp.Lexicographic.{slice_cmp}
 use Rattle.std.specs.declared.cmp.Ordering.TheVariants.{Less}
 use Rattle.rsml_syntax.specs.declared.syntax.Spec.{Spec}
 use Rattle.rsml_syntax.specs.declared.world.World.{World}
-use Rattle.rsml_meaning.specs.Words.{Instance, same_instance, has}
+use Rattle.rsml_meaning.specs.Words.{Instance, has, place_in}
 use Rattle.rsml_meaning.specs.Instances.{Component, components, events}
 use Rattle.rsml_meaning.specs.Cells.{InputCell, cells}
 use Rattle.rsml_meaning.specs.Active.{chosen}
@@ -41,6 +41,7 @@ abbrev pub IsLengthAnswer : Spec → Instance → Option ℕ → Type 0
 IsLengthAnswer s x None = Endless s x
 IsLengthAnswer s x (Some n) = IsLength s x n
 
+-- some number is the length of the event
 abbrev pub HasLength : Spec → Instance → Type 0
 HasLength s x = (n : ℕ) × IsLength s x n
 
@@ -50,12 +51,15 @@ pub record IsClash (s : Spec) (x : Instance) (c : ClashFound) : Type 0 where
   pub declared_two : IsTrue (has (events s) c.two)
   pub clash : Clash s x c.round c.one c.two
 
+-- the place of an event among the events
 abbrev pub event_place : Spec → Instance → ℕ
-event_place s e = unwrap_or (position (same_instance e) (events s)) 0
+event_place s e = unwrap_or (place_in (events s) e) 0
 
+-- what clashes are ordered by: the round, then the first event, then the second
 abbrev pub rank : Spec → ClashFound → List ℕ
 rank s c = c.round ∷ event_place s c.one ∷ event_place s c.two ∷ []
 
+-- the first clash goes before the second
 abbrev pub IsBeforeClash : Spec → ClashFound → ClashFound → Type 0
 IsBeforeClash s c d = slice_cmp nat_cmp (rank s c) (rank s d) ≡ Less
 
@@ -78,25 +82,32 @@ pub record AreRight (s : Spec) (a : Answers) : Type 0 where
 
 -- The text.
 
+-- the length of an event, or `endless`
 abbrev pub length_text : Option ℕ → Text
 length_text None = codes "endless"
 length_text (Some n) = decimal n
 
+-- `chain EVENT L`
 abbrev pub chain_line : Instance × Option ℕ → Text
 chain_line c = text_line (codes "chain " ++ (instance_text c.0 ++ (codes " " ++ length_text c.1)))
 
+-- the events that loop
 abbrev pub looping : Spec → Answers → List Instance
 looping s a = items_where_true a.loops (events s)
 
+-- `loop EVENT`
 abbrev pub loop_line : Instance → Text
 loop_line e = text_line (codes "loop " ++ instance_text e)
 
+-- `START round N ONE TWO`
 abbrev pub clash_text : Instance → ClashFound → Text
 clash_text x c = instance_text x ++ (codes " round " ++ (decimal c.round ++ (codes " " ++ (instance_text c.one ++ (codes " " ++ instance_text c.two)))))
 
+-- `clash START round N ONE TWO`, or nothing where there is no clash
 abbrev pub clash_line : Instance × Option ClashFound → Text
 clash_line c = elim c.1 [ None ↦ [] | Some d ↦ text_line (codes "clash " ++ clash_text c.0 d) ]
 
+-- `PATH on EVENT`, `send NAME on EVENT` or `function NAME`
 abbrev pub group_text : Group → Text
 group_text (state path e) = path_text path ++ (codes " on " ++ instance_text e)
 group_text (send x e) = codes "send " ++ (instance_text x ++ (codes " on " ++ instance_text e))
@@ -108,11 +119,13 @@ choice_line c = if c.1 == 0 then [] else text_line (codes "  in " ++ (path_text 
 
 -- nothing where the cell has its least number
 abbrev pub cell_line : InputCell × ℤ → Text
-cell_line c = if int_eq c.1 c.0.kind.low then [] else text_line (codes "  " ++ (cell_text c.0 ++ (codes " = " ++ (value_text c.0.kind.names c.1 ++ codes " | T"))))
+cell_line c = if int_eq c.1 c.0.numbers.low then [] else text_line (codes "  " ++ (cell_text c.0 ++ (codes " = " ++ (value_text c.0.numbers.names c.1 ++ codes " | T"))))
 
+-- what of a world is not least: chosen children, and then numbers
 abbrev pub world_text : Spec → World → Text
 world_text s w = flat_map choice_line (zip (components s) w.choices) ++ flat_map cell_line (zip (cells s) w.cells)
 
+-- the label of a transition or of a case
 abbrev pub member_label : Member → Text
 member_label (transition t) = label t
 member_label (send_case c) = case_label c.ordinal
@@ -122,6 +135,7 @@ member_label (case f c) = case_label c.0
 abbrev pub enabled_text : Spec → Group → World → Text
 enabled_text s group w = flat_map (λ m. text_line (codes "  enabled " ++ member_label m)) (filter (enabled (view s w)) (members s group))
 
+-- the last line of a finding
 abbrev pub confirmed : Text
 confirmed = text_line (codes "  confirmed")
 
@@ -133,6 +147,7 @@ finding s x = elim x.1 [
   | two w ↦ text_line (codes "two " ++ group_text x.0) ++ (world_text s w ++ (enabled_text s x.0 w ++ confirmed))
 ]
 
+-- the group is not sound
 abbrev pub is_finding : Verdict → Bool
 is_finding sound = false
 is_finding (none w) = true
@@ -142,6 +157,7 @@ is_finding (two w) = true
 abbrev pub refusals : Spec → Answers → ℕ
 refusals s a = length (looping s a) + (length (filter is_some a.clashes) + length (filter is_finding a.verdicts))
 
+-- `certified`, or `refused N`
 abbrev pub last_line : ℕ → Text
 last_line n = if n == 0 then text_line (codes "certified") else text_line (codes "refused " ++ decimal n)
 

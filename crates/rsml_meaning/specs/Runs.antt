@@ -15,6 +15,7 @@ use Rattle.rsml_meaning.specs.Steps.{Round, IsStep}
 abbrev pub first_world : Spec → World
 first_world s = record { choices = map (λ c. child_place c c.first) (components s); cells = map (λ c. c.initial) (cells s) }
 
+-- the number of a field, where the field is this input
 abbrev pub number_for : Instance → Instance × ℤ → Option ℤ
 number_for input field = if same_instance input field.0 then Some field.1 else None
 

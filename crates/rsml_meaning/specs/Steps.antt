@@ -7,10 +7,11 @@ use Rattle.rsml_syntax.specs.declared.syntax.Value.{Value}
 use Rattle.rsml_syntax.specs.declared.syntax.Value.TheVariants as values
 use Rattle.rsml_syntax.specs.declared.syntax.Answer.{Answer}
 use Rattle.rsml_syntax.specs.declared.syntax.Answer.TheVariants as answers
+use Rattle.rsml_syntax.specs.Comparisons.{Reading}
 use Rattle.rsml_meaning.specs.Words.{Instance, has, Each, IsOne, AllThree}
 use Rattle.rsml_meaning.specs.Instances.{Component, components, events}
 use Rattle.rsml_meaning.specs.Active.{given}
-use Rattle.rsml_meaning.specs.Truth.{View, view, Scope, within, sum, instance, Gives}
+use Rattle.rsml_meaning.specs.Truth.{View, view, within, sum, instance, Gives}
 use Rattle.rsml_meaning.specs.Transitions.{TransitionInstance, transitions, is_enabled}
 use Rattle.rsml_meaning.specs.Interfaces.{SendCaseInstance, send_cases, is_sending}
 
@@ -18,6 +19,7 @@ use Rattle.rsml_meaning.specs.Interfaces.{SendCaseInstance, send_cases, is_sendi
 abbrev pub given_by : Component → TransitionInstance → Option ℕ
 given_by c t = elim t.target [ None ↦ None | Some target ↦ given t.component target c ]
 
+-- these, or the old one where there are none
 abbrev pub or_kept : ℕ → List ℕ → List ℕ
 or_kept n [] = n ∷ []
 or_kept n (m ∷ ms) = m ∷ ms
@@ -31,13 +33,15 @@ pub record Sent : Type 0 where
   pub send_case : SendCaseInstance
   pub values : List ℤ
 
-abbrev pub IsValue : View → Scope → Value → ℤ → Type 0
-IsValue v sc (values.Sum x) n = n ≡ sum v sc x
-IsValue v sc (values.Function f) n = Gives v (instance v.names sc f) n
+-- a number is the value of what is sent: of a sum, or one that a function gives
+abbrev pub IsValue : View → Reading → Value → ℤ → Type 0
+IsValue v r (values.Sum x) n = n ≡ sum v r x
+IsValue v r (values.Function f) n = Gives v (instance v.names r f) n
 
-abbrev pub AreValues : View → Scope → Answer → List ℤ → Type 0
-AreValues v sc answers.Quiet ns = ns ≡ []
-AreValues v sc (answers.Values xs) ns = AllZip (IsValue v sc) xs ns
+-- the numbers are the values of an answer, one for each; none where it is quiet
+abbrev pub AreValues : View → Reading → Answer → List ℤ → Type 0
+AreValues v r answers.Quiet ns = ns ≡ []
+AreValues v r (answers.Values xs) ns = AllZip (IsValue v r) xs ns
 
 -- the transitions that are enabled on the present events
 abbrev pub enabled_transitions : Spec → View → List Instance → List TransitionInstance

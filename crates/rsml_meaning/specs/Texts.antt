@@ -5,6 +5,7 @@ use Rattle.rsml_meaning.specs.Words.{Instance, Path}
 use Rattle.rsml_meaning.specs.Cells.{InputCell}
 use Rattle.rsml_meaning.specs.Transitions.{TransitionInstance}
 
+-- the bytes of a text
 abbrev pub Text : Type 0
 Text = List ℕ
 
@@ -12,6 +13,7 @@ Text = List ℕ
 abbrev pub text_line : Text → Text
 text_line text = text ++ codes "\n"
 
+-- texts with another between each two
 abbrev pub joined : Text → List Text → Text
 joined between [] = []
 joined between (t ∷ []) = t
@@ -25,6 +27,7 @@ instance_text i = if i.index == 0 then i.name else i.name ++ (codes "[" ++ (deci
 abbrev pub path_text : Path → Text
 path_text path = joined (codes ".") (map instance_text path)
 
+-- digits, with `-` before a negative number
 abbrev pub number_text : ℤ → Text
 number_text (pos n) = decimal n
 number_text (negsuc n) = codes "-" ++ decimal (suc n)
@@ -34,6 +37,7 @@ abbrev pub value_text : List Name → ℤ → Text
 value_text [] n = number_text n
 value_text (name ∷ names) n = slice_index_or (name ∷ names) (unsigned_abs n) []
 
+-- the name of the last step
 abbrev pub last_name : Path → Name
 last_name [] = []
 last_name (x ∷ []) = x.name

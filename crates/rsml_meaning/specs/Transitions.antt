@@ -28,9 +28,11 @@ innermost path = fold (λ i step. if step.index == 0 then i else step.index) 0 p
 abbrev pub sources : Component → Name → List Name
 sources c name = elim (find (λ b. same name b.name) c.buses) [ Some b ↦ b.members | None ↦ name ∷ [] ]
 
+-- the target of a component at this path
 abbrev pub target_path : Path → List Name → Path
 target_path path names = path ++ map (λ name. at name 0) names
 
+-- a transition, with its place, of a component from one of its sources
 abbrev pub new_transition : Globals → Component → ℕ × Transition → Name → TransitionInstance
 new_transition g c t source =
     let this = innermost c.path in
@@ -53,6 +55,7 @@ transitions_of g c = flat_map (λ t. map (new_transition g c t) (sources c t.1.s
 abbrev pub transitions : Spec → List TransitionInstance
 transitions s = flat_map (transitions_of (globals_of s)) (components s)
 
+-- the transition is on this event
 abbrev pub is_on : Instance → TransitionInstance → Bool
 is_on e t = same_instance t.event e
 

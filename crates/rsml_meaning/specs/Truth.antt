@@ -1,12 +1,11 @@
 -- What sums, phrases, tables and guards say in a world.
-use Rattle.std.specs.Prelude.{◌≡◌, ℕ, Bool, true, false, ◌⊎◌, List, [], ◌∷◌, map, Option, Some, None, if◌then◌else◌, ℤ, pos, neg_ℤ, ◌+ℤ◌, unsigned_abs, fold, flat_map}
+use Rattle.std.specs.Prelude.{◌≡◌, ℕ, Bool, true, false, ◌⊎◌, List, [], ◌∷◌, map, Some, None, if◌then◌else◌, ℤ, pos, neg_ℤ, ◌+ℤ◌, fold, flat_map}
+use Rattle.std.specs.Option.{option_map_or}
 use Rattle.std.specs.List.{list_any, list_all}
 use Rattle.rsml_syntax.specs.declared.syntax.Spec.{Spec}
 use Rattle.rsml_syntax.specs.declared.world.World.{World}
 use Rattle.rsml_syntax.specs.declared.syntax.Decl.{Decl}
 use Rattle.rsml_syntax.specs.declared.syntax.Decl.TheVariants as decl
-use Rattle.rsml_syntax.specs.declared.syntax.Index.{Index}
-use Rattle.rsml_syntax.specs.declared.syntax.Index.TheVariants as index
 use Rattle.rsml_syntax.specs.declared.syntax.Mention.{Mention}
 use Rattle.rsml_syntax.specs.declared.syntax.Operand.{Operand}
 use Rattle.rsml_syntax.specs.declared.syntax.Operand.TheVariants as operands
@@ -21,11 +20,13 @@ use Rattle.rsml_syntax.specs.declared.syntax.Guard.{Guard}
 use Rattle.rsml_syntax.specs.declared.syntax.Guard.TheVariants as guards
 use Rattle.rsml_syntax.specs.declared.syntax.Case.{Case}
 use Rattle.rsml_syntax.specs.Names.{Name, same}
-use Rattle.rsml_syntax.specs.Globals.{Globals, Known, meaning, number}
+use Rattle.rsml_syntax.specs.Comparisons.{Reading, index_number}
+use Rattle.rsml_syntax.specs.Globals.{Globals, meaning, number, indices}
 use Rattle.rsml_syntax.specs.Relations.{compare}
 use Rattle.rsml_syntax.specs.Tables.{TableRow, table_truth}
+use Rattle.rsml_syntax.specs.Uses.{is_input}
 use Rattle.rsml_meaning.specs.Words.{Instance, at, Path, IsOne}
-use Rattle.rsml_meaning.specs.Instances.{globals_of, indices}
+use Rattle.rsml_meaning.specs.Instances.{globals_of}
 use Rattle.rsml_meaning.specs.Worlds.{cell}
 use Rattle.rsml_meaning.specs.Active.{active}
 
@@ -39,88 +40,75 @@ pub record View : Type 0 where
   pub holds : Instance → Bool
   pub gives : Instance → List ℤ
 
--- What an index means at its place: the index of what surrounds it, and the quantifier's variable with its value.
-pub record Scope : Type 0 where
-  pub this : ℕ
-  pub variable : Option (Name × ℕ)
-
 -- inside the instance with this index, and in no quantifier
-abbrev pub within : ℕ → Scope
+abbrev pub within : ℕ → Reading
 within i = record { this = i; variable = None }
 
 -- inside a quantifier, at this value of its variable
-abbrev pub quantified : Scope → Name → ℕ → Scope
-quantified sc name i = record sc { variable = Some (name, i) }
-
--- the value of the variable where the name is its name, else the other number
-abbrev pub variable_or : Option (Name × ℕ) → Name → ℕ → ℕ
-variable_or None name n = n
-variable_or (Some v) name n = if same v.0 name then v.1 else n
-
--- the number of an index that is written, 0 where none is
-abbrev pub index_of : Globals → Scope → Option Index → ℕ
-index_of g sc None = 0
-index_of g sc (Some (index.Number n)) = n
-index_of g sc (Some index.This) = sc.this
-index_of g sc (Some (index.Name name)) = variable_or sc.variable name (unsigned_abs (number g name))
+abbrev pub quantified : Reading → Name → ℕ → Reading
+quantified r name i = record r { variable = Some (name, i) }
 
 -- the instance that is mentioned
-abbrev pub instance : Globals → Scope → Mention → Instance
-instance g sc m = at m.name (index_of g sc m.index)
+abbrev pub instance : Globals → Reading → Mention → Instance
+instance g r m = at m.name (index_number g r m.index)
 
 -- Sums.
 
-abbrev pub is_input : Option Known → Bool
-is_input None = false
-is_input (Some k) = elim k.decl [ decl.Input _ _ _ _ ↦ true | _ ↦ false ]
-
 -- the number of an input's cell, of a constant, or of an enumeration's value
-abbrev pub mentioned : View → Scope → Mention → ℤ
-mentioned v sc m = elim (is_input (meaning v.names m.name)) [ true ↦ v.input (instance v.names sc m) | false ↦ number v.names m.name ]
+abbrev pub mentioned : View → Reading → Mention → ℤ
+mentioned v r m = elim (option_map_or is_input (meaning v.names m.name) false) [ true ↦ v.input (instance v.names r m) | false ↦ number v.names m.name ]
 
-abbrev pub operand : View → Scope → Operand → ℤ
-operand v sc (operands.Number n) = pos n
-operand v sc (operands.Mention m) = mentioned v sc m
-operand v sc (operands.Previous m) = v.previous (instance v.names sc m)
+-- the number of an operand
+abbrev pub operand : View → Reading → Operand → ℤ
+operand v r (operands.Number n) = pos n
+operand v r (operands.Mention m) = mentioned v r m
+operand v r (operands.Previous m) = v.previous (instance v.names r m)
 
-abbrev pub term : View → Scope → Term → ℤ
-term v sc t = if t.minus then neg_ℤ (operand v sc t.operand) else operand v sc t.operand
+-- the number of a term, with its sign
+abbrev pub term : View → Reading → Term → ℤ
+term v r t = if t.minus then neg_ℤ (operand v r t.operand) else operand v r t.operand
 
 -- the sum of the signed terms
-abbrev pub sum : View → Scope → Sum → ℤ
-sum v sc x = fold (λ a t. a +ℤ term v sc t) (pos 0) x.terms
+abbrev pub sum : View → Reading → Sum → ℤ
+sum v r x = fold (λ a t. a +ℤ term v r t) (pos 0) x.terms
 
 -- Phrases.
 
-abbrev pub simple : View → Scope → Simple → Bool
-simple v sc (simples.In path) = v.is_active (map (instance v.names sc) path)
-simple v sc (simples.Macro m) = v.holds (instance v.names sc m)
-simple v sc (simples.Compare left relation right) = compare relation (sum v sc left) (sum v sc right)
-simple v sc (simples.Function f relation right) = list_any (λ x. compare relation x (sum v sc right)) (v.gives (instance v.names sc f))
+-- the truth of a phrase without a quantifier
+abbrev pub simple : View → Reading → Simple → Bool
+simple v r (simples.In path) = v.is_active (map (instance v.names r) path)
+simple v r (simples.Macro m) = v.holds (instance v.names r m)
+simple v r (simples.Compare left relation right) = compare relation (sum v r left) (sum v r right)
+simple v r (simples.Function f relation right) = list_any (λ x. compare relation x (sum v r right)) (v.gives (instance v.names r f))
 
-abbrev pub phrase : View → Scope → Phrase → Bool
-phrase v sc (phrases.Plain body) = simple v sc body
-phrase v sc (phrases.Any name bound body) = list_any (λ i. simple v (quantified sc name i) body) (indices v.names (Some bound))
-phrase v sc (phrases.Every name bound body) = list_all (λ i. simple v (quantified sc name i) body) (indices v.names (Some bound))
+-- the truth of a phrase: `some` and `every` go over the values of their variable
+abbrev pub phrase : View → Reading → Phrase → Bool
+phrase v r (phrases.Plain body) = simple v r body
+phrase v r (phrases.Any name bound body) = list_any (λ i. simple v (quantified r name i) body) (indices v.names (Some bound))
+phrase v r (phrases.Every name bound body) = list_all (λ i. simple v (quantified r name i) body) (indices v.names (Some bound))
 
 -- Tables and guards.
 
-abbrev pub row_truth : View → Scope → Row → TableRow
-row_truth v sc row = (phrase v sc row.phrase, row.cells)
+-- the truth of a row's phrase, and its cells
+abbrev pub row_truth : View → Reading → Row → TableRow
+row_truth v r row = (phrase v r row.phrase, row.cells)
 
-abbrev pub table : View → Scope → List Row → Bool
-table v sc rows = table_truth (map (row_truth v sc) rows)
+-- the truth of a table
+abbrev pub table : View → Reading → List Row → Bool
+table v r rows = table_truth (map (row_truth v r) rows)
 
-abbrev pub guard : View → Scope → Guard → Bool
-guard v sc guards.Always = true
-guard v sc (guards.Table rows) = table v sc rows
+-- the truth of a guard
+abbrev pub guard : View → Reading → Guard → Bool
+guard v r guards.Always = true
+guard v r (guards.Table rows) = table v r rows
 
 -- the values of the cases with a true guard
-abbrev pub values_given : View → Scope → List Case → List ℤ
-values_given v sc cases = flat_map (λ c. if guard v sc c.guard then sum v sc c.value ∷ [] else []) cases
+abbrev pub values_given : View → Reading → List Case → List ℤ
+values_given v r cases = flat_map (λ c. if guard v r c.guard then sum v r c.value ∷ [] else []) cases
 
 -- Macros and functions: each is read by what is declared before it.
 
+-- what a view says after one more declaration
 abbrev pub learn : View → Decl → View
 learn v (decl.Macro name size rows) = record v { holds = λ i. elim (same name i.name) [ true ↦ table v (within i.index) rows | false ↦ v.holds i ] }
 learn v (decl.Function name size cases) = record v { gives = λ i. elim (same name i.name) [ true ↦ values_given v (within i.index) cases | false ↦ v.gives i ] }
@@ -130,6 +118,7 @@ learn v _ = v
 abbrev pub bare : Spec → World → View
 bare s w = record { names = globals_of s; is_active = active s w; input = cell s w false; previous = cell s w true; holds = λ i. false; gives = λ i. [] }
 
+-- what can be asked of a world of a specification
 abbrev pub view : Spec → World → View
 view s w = fold learn (bare s w) s.decls
 

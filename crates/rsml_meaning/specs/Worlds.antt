@@ -16,8 +16,9 @@ is_choice c place = nat_lt place (length c.children)
 
 -- one child for each component, and for each cell a number of its type
 abbrev pub is_world : Spec → World → Bool
-is_world s w = pointwise is_choice (components s) w.choices && pointwise (λ c n. is_of c.kind n) (cells s) w.cells
+is_world s w = pointwise is_choice (components s) w.choices && pointwise (λ c n. is_of c.numbers n) (cells s) w.cells
 
+-- it is a world of the specification
 abbrev pub IsWorld : Spec → World → Type 0
 IsWorld s w = IsTrue (is_world s w)
 
@@ -25,6 +26,7 @@ IsWorld s w = IsTrue (is_world s w)
 abbrev pub world_cmp : World → World → Ordering
 world_cmp = then_cmp (on (λ w. w.choices) (slice_cmp nat_cmp)) (on (λ w. w.cells) (slice_cmp int_cmp))
 
+-- the first world is before the second
 abbrev pub IsBefore : World → World → Type 0
 IsBefore v w = world_cmp v w ≡ Less
 
@@ -33,6 +35,7 @@ abbrev pub is_cell : Bool → Instance → InputCell → Bool
 is_cell true input c = c.previous && same_instance c.input input
 is_cell false input c = not c.previous && same_instance c.input input
 
+-- the number of a cell, where it is this one
 abbrev pub held : Bool → Instance → InputCell × ℤ → Option ℤ
 held previous input c = if is_cell previous input c.0 then Some c.1 else None
 

@@ -1,2 +1,16 @@
-//! What a specification means: definitions, and laws about them.
+//! What a specification means, as definitions, and laws about them.
 #![tactic(auto)]
+
+mod chains;
+mod event_files;
+mod reports;
+mod states;
+mod truth;
+mod worlds;
+
+pub use chains::an_event_has_a_length_or_a_loop;
+pub use event_files::well_formed_files_have_no_fault;
+pub use reports::a_report_is_one_text;
+pub use states::states_are_of_children;
+pub use truth::{functions_are_their_cases, macros_are_their_tables};
+pub use worlds::{moves_apart_commute, worlds_are_ordered};

@@ -1,2 +1,2 @@
-mod Refused
-mod Writing
+pub mod Examples
+mod Lowest

@@ -1,5 +1,5 @@
 -- The breaches of a declaration: S1, S4, S5, S7 and S15 at its name, S1 and S14 at later names, and what it uses.
-use Rattle.std.specs.Prelude.{ℕ, ◌+◌, Bool, true, false, not, ◌&&◌, ◌||◌, ◌==◌, List, [], ◌∷◌, ◌++◌, map, flat_map, length, Option, Some, None, is_some, ℤ, int_lt, int_le, nat_lt}
+use Rattle.std.specs.Prelude.{ℕ, ◌+◌, Bool, true, false, not, ◌&&◌, ◌||◌, ◌==◌, List, [], ◌∷◌, ◌++◌, map, flat_map, length, Option, None, is_some, ℤ, int_lt, int_le, nat_lt}
 use Rattle.std.specs.List.{list_all}
 use Rattle.std.specs.Option.{option_map_or}
 use Rattle.rsml_syntax.specs.declared.syntax.Amount.{Amount}
@@ -25,6 +25,7 @@ use Rattle.rsml_syntax.specs.Uses.{used, mentioned, sized, sum_used, guard_used}
 use Rattle.rsml_syntax.specs.Kinds.{cases_alike}
 use Rattle.rsml_syntax.specs.Owners.{owner}
 
+-- there is a first place, and it is below this one
 abbrev pub is_below : Option ℕ → ℕ → Bool
 is_below first place = option_map_or (λ p. nat_lt p place) first false
 
@@ -44,9 +45,11 @@ repeats rule earlier (name ∷ names) = breach rule name (is_in name earlier) ++
 
 -- INITIAL VALUES
 
+-- from the low end of a range to its high end
 abbrev pub is_between : Signed → Signed → ℤ → Bool
 is_between low high n = int_le (signed low) n && int_le n (signed high)
 
+-- a value of this enumeration
 abbrev pub is_value_of : Name → Known → Bool
 is_value_of enumeration k = is_some k.value && same (name_of k.decl) enumeration
 
@@ -61,16 +64,19 @@ is_initial g initial k = of k.decl initial
     of (decl.Enumeration enumeration _) (initials.Name name) = option_map_or (is_value_of enumeration) (meaning g name) false
     of _ _ = true
 
+-- an initial value that is written as a name wants a constant or a value
 abbrev pub initial_used : Whole → Scope → Initial → List Breach
 initial_used w at (initials.Number _) = []
 initial_used w at (initials.Name name) = used w at want.Initial name
 
 -- CASES
 
+-- there is a case
 abbrev pub has_cases : List Case → Bool
 has_cases [] = false
 has_cases _ = true
 
+-- a case of a function: its value, then its guard
 abbrev pub case_used : Whole → Scope → Case → List Breach
 case_used w at c = sum_used w at c.value ++ guard_used w at c.guard
 
@@ -79,10 +85,12 @@ abbrev pub gives : ℕ → Answer → Bool
 gives fields answers.Quiet = true
 gives fields (answers.Values vs) = length vs == fields
 
+-- a value of an answer: a sum, or a function
 abbrev pub value_used : Whole → Scope → Value → List Breach
 value_used w at (values.Sum sum) = sum_used w at sum
 value_used w at (values.Function f) = mentioned w at want.Function f
 
+-- a case of a send: its trigger, its guard, then its values
 abbrev pub send_case_used : Whole → Scope → SendCase → List Breach
 send_case_used w at c =
     mentioned w at want.Event c.trigger ++ (guard_used w at c.guard ++ flat_map (value_used w at) (values_in c.answer))

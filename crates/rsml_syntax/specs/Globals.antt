@@ -1,5 +1,5 @@
 -- The global names of a specification, and what each of them is.
-use Rattle.std.specs.Prelude.{ℕ, ◌+◌, Bool, List, [], ◌∷◌, flat_map, Option, Some, None, if◌then◌else◌, slice_get, ℤ, pos, neg_ℤ, unsigned_abs}
+use Rattle.std.specs.Prelude.{ℕ, zero, suc, ◌+◌, Bool, List, [], ◌∷◌, ◌++◌, flat_map, Option, Some, None, if◌then◌else◌, slice_get, ℤ, pos, neg_ℤ, unsigned_abs}
 use Rattle.std.specs.Option.{option_map, option_map_or}
 use Rattle.rsml_syntax.specs.declared.syntax.Amount.{Amount}
 use Rattle.rsml_syntax.specs.declared.syntax.Amount.TheVariants as amounts
@@ -91,3 +91,13 @@ amount_of g (amounts.Name name) = constant g name
 abbrev pub many : Globals → Option Amount → ℕ
 many g None = 1
 many g (Some amount) = option_map_or unsigned_abs (amount_of g amount) 1
+
+-- 1 to n
+abbrev pub up_to : ℕ → List ℕ
+up_to zero = []
+up_to (suc n) = up_to n ++ (suc n ∷ [])
+
+-- the indices of what is declared with this size: 1 to the size, or 0 alone where there is none
+abbrev pub indices : Globals → Option Amount → List ℕ
+indices g None = 0 ∷ []
+indices g (Some amount) = up_to (many g (Some amount))

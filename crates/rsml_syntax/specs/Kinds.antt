@@ -11,7 +11,6 @@ use Rattle.rsml_syntax.specs.declared.syntax.Sum.{Sum}
 use Rattle.rsml_syntax.specs.declared.syntax.Simple.{Simple}
 use Rattle.rsml_syntax.specs.declared.syntax.Simple.TheVariants as simples
 use Rattle.rsml_syntax.specs.declared.syntax.Case.{Case}
-use Rattle.rsml_syntax.specs.declared.syntax.Decl.{Decl}
 use Rattle.rsml_syntax.specs.declared.syntax.Decl.TheVariants as decl
 use Rattle.rsml_syntax.specs.Names.{Name, same}
 use Rattle.rsml_syntax.specs.Globals.{Known, Globals, meaning}
@@ -21,11 +20,13 @@ pub data Kind : Type 0 where
   Numbers : Kind
   Values : Name → Kind
 
+-- two kinds are one
 abbrev pub same_kind : Kind → Kind → Bool
 same_kind Numbers Numbers = true
 same_kind (Values a) (Values b) = same a b
 same_kind _ _ = false
 
+-- the kind is that of numbers
 abbrev pub is_numbers : Option Kind → Bool
 is_numbers (Some Numbers) = true
 is_numbers _ = false
@@ -38,9 +39,11 @@ type_kind k = elim k.decl [ decl.Range _ _ _ ↦ Some Numbers | decl.Enumeration
 abbrev pub kind_of : Globals → Known → Option Kind
 kind_of g k = elim k.decl [ decl.Constant _ _ ↦ Some Numbers | decl.Enumeration name _ ↦ Some (Values name) | decl.Input _ _ kind _ ↦ option_and_then type_kind (meaning g kind) | _ ↦ None ]
 
+-- the kind of a name
 abbrev pub name_kind : Globals → Name → Option Kind
 name_kind g name = option_and_then (kind_of g) (meaning g name)
 
+-- the kind of an operand: `previous X` has that of X
 abbrev pub operand_kind : Globals → Operand → Option Kind
 operand_kind g (operands.Number _) = Some Numbers
 operand_kind g (operands.Mention m) = name_kind g m.name
@@ -55,6 +58,7 @@ single_kind g _ = None
 abbrev pub sum_kind : Globals → Sum → Option Kind
 sum_kind g sum = if list_all (λ t. is_numbers (operand_kind g t.operand)) sum.terms then Some Numbers else single_kind g sum.terms
 
+-- a sum has a kind
 abbrev pub has_kind : Globals → Sum → Bool
 has_kind g sum = is_some (sum_kind g sum)
 
@@ -63,6 +67,7 @@ abbrev pub are_alike : Option Kind → Option Kind → Bool
 are_alike (Some a) (Some b) = same_kind a b
 are_alike _ _ = false
 
+-- `=` or `!=`
 abbrev pub is_equation : Relation → Bool
 is_equation relations.Equal = true
 is_equation relations.NotEqual = true
@@ -76,6 +81,7 @@ may_compare a relation b = are_alike a b && (is_numbers a || is_equation relatio
 abbrev pub cases_of : Known → List Case
 cases_of k = elim k.decl [ decl.Function _ _ cases ↦ cases | _ ↦ [] ]
 
+-- the cases of the function of this name
 abbrev pub function_cases : Globals → Name → List Case
 function_cases g name = option_map_or cases_of (meaning g name) []
 

@@ -5,7 +5,6 @@ use Rattle.std.specs.Option.{option_map_or}
 use Rattle.rsml_syntax.specs.declared.syntax.Phrase.{Phrase}
 use Rattle.rsml_syntax.specs.declared.syntax.Phrase.TheVariants as phrases
 use Rattle.rsml_syntax.specs.declared.syntax.Row.{Row}
-use Rattle.rsml_syntax.specs.declared.syntax.Decl.{Decl}
 use Rattle.rsml_syntax.specs.declared.syntax.Decl.TheVariants as decl
 use Rattle.rsml_syntax.specs.declared.syntax.Transition.{Transition}
 use Rattle.rsml_syntax.specs.declared.syntax.Spec.{Spec}
@@ -15,7 +14,8 @@ use Rattle.rsml_syntax.specs.Written.{rows_of, rows_in}
 use Rattle.rsml_syntax.specs.Previous.{names_previous}
 use Rattle.rsml_syntax.specs.Parts.{Part, Declared, Opens, Closes, State, parts, nearer, buses_of, transitions_of}
 use Rattle.rsml_syntax.specs.Rules.{refused}
-use Rattle.rsml_syntax.specs.Comparisons.{Comparison, comparisons, thresholds, same_threshold, keys, same_key}
+use Rattle.rsml_syntax.specs.Comparisons.{Comparison, comparisons}
+use Rattle.rsml_syntax.specs.Thresholds.{thresholds, same_threshold, keys, same_key}
 
 -- the sum of what is counted at each item
 abbrev pub adds : {A : Type 0} → (A → ℕ) → List A → ℕ
@@ -80,6 +80,7 @@ rows_at g (Declared _ d) = many g (size_of d) * adds (ground_rows g) (rows_in d)
 rows_at g (Opens _) = 0
 rows_at g (Closes s) = instances g s * adds (λ t. sources s t * adds (ground_rows g) (rows_of t.guard)) (transitions_of s.body)
 
+-- the ground comparisons of all tables
 abbrev pub all_comparisons : Spec → List Comparison
 all_comparisons s = flat_map (comparisons (globals s.decls)) (parts s)
 

@@ -25,6 +25,7 @@ is_table [] = false
 is_table (row ∷ rows) =
     is_count 64 (length (row ∷ rows)) && (is_count 32 (length row.cells) && list_all (λ r. length r.cells == length row.cells) rows)
 
+-- S8: the table of a guard is one
 abbrev pub guard_is_table : Guard → Bool
 guard_is_table guards.Always = true
 guard_is_table (guards.Table rows) = is_table rows
@@ -33,6 +34,7 @@ guard_is_table (guards.Table rows) = is_table rows
 abbrev pub is_long : Sum → Bool
 is_long sum = nat_lt 8 (length sum.terms)
 
+-- S16: a guard has a sum of more than 8 terms
 abbrev pub guard_is_long : Guard → Bool
 guard_is_long guard = list_any (λ row. list_any is_long (sums_of_row row)) (rows_of guard)
 

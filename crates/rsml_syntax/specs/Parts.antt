@@ -82,8 +82,10 @@ child_parts in_one array earlier (c ∷ cs) =
     Opens (placed c.name (is_in c.name earlier) c.size array in_one c.body) ∷ (inside (nearer c.size array) c.body
     ++ (Closes (placed c.name (is_in c.name earlier) c.size array in_one c.body) ∷ child_parts in_one array (earlier ++ (c.name ∷ [])) cs))
 
+-- the top state: it stands in nothing
 abbrev pub top_of : Spec → State
 top_of s = placed s.top false None None false s.body
 
+-- all parts: the declarations, then the top state with all that is inside it
 abbrev pub parts : Spec → List Part
 parts s = declared 0 s.decls ++ (Opens (top_of s) ∷ (inside None s.body ++ (Closes (top_of s) ∷ [])))

@@ -1,5 +1,5 @@
 -- Which inputs are named after `previous`.
-use Rattle.std.specs.Prelude.{Bool, false, List, [], ◌∷◌, ◌++◌, flat_map}
+use Rattle.std.specs.Prelude.{Bool, false, List, [], ◌++◌, flat_map}
 use Rattle.std.specs.List.{list_any}
 use Rattle.rsml_syntax.specs.declared.syntax.Operand.{Operand}
 use Rattle.rsml_syntax.specs.declared.syntax.Operand.TheVariants as operands
@@ -19,6 +19,7 @@ sums_of_part (Closes state) = flat_map (λ t. sums_of_guard t.guard) (transition
 abbrev pub written_sums : Spec → List Sum
 written_sums s = flat_map sums_of_part (parts s)
 
+-- the operand is `previous` of this name
 abbrev pub is_previous : Name → Operand → Bool
 is_previous name (operands.Previous m) = same name m.name
 is_previous name _ = false

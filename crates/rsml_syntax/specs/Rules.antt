@@ -8,9 +8,11 @@ use Rattle.rsml_syntax.specs.Scopes.{Whole, variables}
 use Rattle.rsml_syntax.specs.Declarations.{declaration}
 use Rattle.rsml_syntax.specs.States.{opening, closing}
 
+-- what all judging looks at
 abbrev pub whole : Spec → Whole
 whole s = record { globals = globals s.decls; variables = variables s.decls; top = s.top; children = children_of s.body }
 
+-- the breaches of a part
 abbrev pub judged : Whole → Part → List Breach
 judged w (Declared place d) = declaration w place d
 judged w (Opens s) = opening w s

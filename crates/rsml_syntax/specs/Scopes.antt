@@ -26,6 +26,7 @@ pub record Whole : Type 0 where
 abbrev pub variable_at : ℕ → Name → Variable
 variable_at place name = record { name = name; place = place }
 
+-- the variables in a declaration
 abbrev pub variables_of_part : Part → List Variable
 variables_of_part (Declared place d) = map (variable_at place) (variables_in d)
 variables_of_part _ = []

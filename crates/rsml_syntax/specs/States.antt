@@ -19,9 +19,11 @@ use Rattle.rsml_syntax.specs.Uses.{mentioned, sized, guard_used, child_named}
 use Rattle.rsml_syntax.specs.Owners.{is_count, owner}
 use Rattle.rsml_syntax.specs.Declarations.{scope_at}
 
+-- the names of the children
 abbrev pub child_names : Body → List Name
 child_names body = map (λ c. c.name) (children_of body)
 
+-- the names of the buses
 abbrev pub bus_names : Body → List Name
 bus_names body = map (λ b. b.name) (buses_of body)
 
@@ -40,6 +42,7 @@ is_composed body =
 abbrev pub is_misplaced : State → Bool
 is_misplaced s = is_some s.size && (s.in_one || is_some s.array)
 
+-- a state where it opens: S1, S10, S13 and S5 at its name, and what its size uses
 abbrev pub opening : Whole → State → List Breach
 opening w s =
     breach 1 s.name s.repeated
@@ -49,6 +52,7 @@ opening w s =
 
 -- BUSES
 
+-- a name stands twice in a list, or in the earlier ones
 abbrev pub has_repeat : List Name → List Name → Bool
 has_repeat earlier [] = false
 has_repeat earlier (name ∷ names) = is_in name earlier || has_repeat (earlier ++ (name ∷ [])) names
@@ -71,15 +75,18 @@ abbrev pub is_target : List StateDecl → List Name → Bool
 is_target children [] = true
 is_target children (name ∷ names) = option_map_or (λ c. is_none c.size && is_target (children_of c.body) names) (child_named name children) false
 
+-- the last name of a target
 abbrev pub last_of : List Name → Name
 last_of [] = []
 last_of (name ∷ []) = name
 last_of (name ∷ next ∷ names) = last_of (next ∷ names)
 
+-- S12 at the last name of a target
 abbrev pub target : List StateDecl → Option (List Name) → List Breach
 target children None = []
 target children (Some path) = breach 12 (last_of path) (not (is_target children path))
 
+-- two written indices are the same; numbers by their value
 abbrev pub same_index : Option Index → Option Index → Bool
 same_index None None = true
 same_index (Some (index.Number a)) (Some (index.Number b)) = a == b
@@ -87,6 +94,7 @@ same_index (Some (index.Name a)) (Some (index.Name b)) = same a b
 same_index (Some index.This) (Some index.This) = true
 same_index _ _ = false
 
+-- two mentions have one name and the same written index
 abbrev pub same_mention : Mention → Mention → Bool
 same_mention a b = same a.name b.name && same_index a.index b.index
 
@@ -107,6 +115,7 @@ transition w at body t =
 
 -- WHERE A STATE CLOSES
 
+-- a state where it closes: its buses, then its transitions
 abbrev pub closing : Whole → State → List Breach
 closing w s =
     buses (child_names s.body) (child_names s.body) (buses_of s.body)

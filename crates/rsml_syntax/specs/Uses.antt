@@ -1,6 +1,6 @@
 -- How names are used: S2, S3 and S6 at a mention, S1 at a variable, S5 at sizes and bounds, S9 at paths, S15 at compared
 -- functions. Each function gives the breaches of its text in the order of the names that are shown.
-use Rattle.std.specs.Prelude.{ℕ, Bool, true, false, not, ◌&&◌, ◌||◌, List, [], ◌∷◌, ◌++◌, flat_map, find, Option, Some, None, if◌then◌else◌, is_none, ℤ, pos, nat_lt, nat_le}
+use Rattle.std.specs.Prelude.{Bool, true, false, not, ◌&&◌, ◌||◌, List, [], ◌∷◌, ◌++◌, flat_map, find, Option, Some, None, if◌then◌else◌, is_none, pos, nat_lt, nat_le}
 use Rattle.std.specs.List.{list_all}
 use Rattle.std.specs.Option.{option_map, option_map_or}
 use Rattle.rsml_syntax.specs.declared.syntax.Amount.{Amount}
@@ -61,6 +61,7 @@ declaration_fits _ _ = false
 abbrev pub fits : Want → Known → Bool
 fits want k = option_map_or (λ _. value_fits want) k.value (declaration_fits want k.decl)
 
+-- a used name: S2, then S3
 abbrev pub used : Whole → Scope → Want → Name → List Breach
 used w at want name =
     breach 2 name (not (is_declared w at name))
@@ -70,6 +71,7 @@ used w at want name =
 abbrev pub is_indexed_for : Whole → Scope → Mention → Known → Bool
 is_indexed_for w at m k = is_indexed w.globals at (size_number w.globals (size_of k.decl)) m.index
 
+-- a mention: its name is used, then S6
 abbrev pub mentioned : Whole → Scope → Want → Mention → List Breach
 mentioned w at want m =
     used w at want m.name
@@ -77,6 +79,7 @@ mentioned w at want m =
 
 -- SIZES AND BOUNDS
 
+-- a size or a bound that is written as a name wants a constant
 abbrev pub amount_used : Whole → Scope → Amount → List Breach
 amount_used w at (amounts.Number _) = []
 amount_used w at (amounts.Name name) = used w at want.Constant name
@@ -85,22 +88,26 @@ amount_used w at (amounts.Name name) = used w at want.Constant name
 abbrev pub is_amount : Whole → Amount → Bool
 is_amount w amount = option_map_or (is_up_to (pos 64)) (amount_of w.globals amount) true
 
+-- a name with a size: S5 at the name, and what the size uses
 abbrev pub sized : Whole → Scope → Name → Option Amount → List Breach
 sized w at name None = []
 sized w at name (Some amount) = breach 5 name (not (is_amount w amount)) ++ amount_used w at amount
 
 -- SUMS
 
+-- an operand: what stands after `previous` is an input
 abbrev pub operand_used : Whole → Scope → Operand → List Breach
 operand_used w at (operands.Number _) = []
 operand_used w at (operands.Mention m) = mentioned w at want.Operand m
 operand_used w at (operands.Previous m) = mentioned w at want.Input m
 
+-- a sum, operand by operand
 abbrev pub sum_used : Whole → Scope → Sum → List Breach
 sum_used w at sum = flat_map (λ t. operand_used w at t.operand) sum.terms
 
 -- PATHS
 
+-- the first child of this name
 abbrev pub child_named : Name → List StateDecl → Option StateDecl
 child_named name children = find (λ c. same name c.name) children
 
@@ -122,10 +129,12 @@ are_steps children (m ∷ ms) = option_map_or (λ c. are_steps (children_of c.bo
 abbrev pub names_state : Whole → Mention → List Mention → Bool
 names_state w m ms = same m.name w.top && (is_none m.index && are_steps w.children ms)
 
+-- the last name of a path that begins so
 abbrev pub last_name : Mention → List Mention → Name
 last_name m [] = m.name
 last_name m (n ∷ ns) = last_name n ns
 
+-- an `in` path: S6 at its steps, then S9 at its last name
 abbrev pub path_used : Whole → Scope → List Mention → List Breach
 path_used w at [] = []
 path_used w at (m ∷ ms) =
@@ -133,9 +142,11 @@ path_used w at (m ∷ ms) =
 
 -- PHRASES
 
+-- the name of an input
 abbrev pub is_input : Known → Bool
 is_input k = elim k.decl [ decl.Input _ _ _ _ ↦ true | _ ↦ false ]
 
+-- a number, a constant or a value of an enumeration
 abbrev pub is_constant_operand : Globals → Operand → Bool
 is_constant_operand g (operands.Number _) = true
 is_constant_operand g (operands.Mention m) = not (option_map_or is_input (meaning g m.name) false)
@@ -157,6 +168,7 @@ simple_used w at (simples.Function f _ right) =
 abbrev pub is_declared_before : Whole → Scope → Name → Bool
 is_declared_before w at variable = option_map_or (λ place. nat_le place at.before) (place_of variable w.globals.names) false
 
+-- where the body of a quantified phrase stands
 abbrev pub within : Whole → Scope → Name → Amount → Scope
 within w at variable bound = record { before = at.before; this = at.this; variable = option_map (λ n. (variable, n)) (amount_of w.globals bound) }
 
@@ -167,10 +179,12 @@ quantified w at variable bound body =
     ++ (breach 5 variable (not (is_amount w bound))
     ++ (amount_used w at bound ++ simple_used w (within w at variable bound) body))
 
+-- a phrase, with its quantifier
 abbrev pub phrase_used : Whole → Scope → Phrase → List Breach
 phrase_used w at (phrases.Plain body) = simple_used w at body
 phrase_used w at (phrases.Any variable bound body) = quantified w at variable bound body
 phrase_used w at (phrases.Every variable bound body) = quantified w at variable bound body
 
+-- a guard, row by row
 abbrev pub guard_used : Whole → Scope → Guard → List Breach
 guard_used w at g = flat_map (λ row. phrase_used w at row.phrase) (rows_of g)

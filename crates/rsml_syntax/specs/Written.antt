@@ -1,5 +1,5 @@
 -- What is written in guards, answers and declarations: rows, sums and quantifiers' variables.
-use Rattle.std.specs.Prelude.{List, [], ◌∷◌, ◌++◌, map, flat_map}
+use Rattle.std.specs.Prelude.{List, [], ◌∷◌, map, flat_map}
 use Rattle.rsml_syntax.specs.declared.syntax.Sum.{Sum}
 use Rattle.rsml_syntax.specs.declared.syntax.Simple.{Simple}
 use Rattle.rsml_syntax.specs.declared.syntax.Simple.TheVariants as simples
@@ -33,15 +33,18 @@ variable_of (phrases.Plain _) = []
 variable_of (phrases.Any variable _ _) = variable ∷ []
 variable_of (phrases.Every variable _ _) = variable ∷ []
 
+-- the sums that are compared
 abbrev pub sums_in : Simple → List Sum
 sums_in (simples.In _) = []
 sums_in (simples.Macro _) = []
 sums_in (simples.Compare left _ right) = left ∷ right ∷ []
 sums_in (simples.Function _ _ right) = right ∷ []
 
+-- the sums of a row
 abbrev pub sums_of_row : Row → List Sum
 sums_of_row row = sums_in (simple_of row.phrase)
 
+-- the sums of a guard
 abbrev pub sums_of_guard : Guard → List Sum
 sums_of_guard g = flat_map sums_of_row (rows_of g)
 
@@ -50,6 +53,7 @@ abbrev pub values_in : Answer → List Value
 values_in answers.Quiet = []
 values_in (answers.Values vs) = vs
 
+-- the sum that a value is, where it is one
 abbrev pub sum_of_value : Value → List Sum
 sum_of_value (values.Sum sum) = sum ∷ []
 sum_of_value (values.Function _) = []

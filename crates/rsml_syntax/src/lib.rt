@@ -1,6 +1,8 @@
 //! What a specification is: its tokens, its syntax, and the worlds that it is about.
 #![tactic(auto)]
 
+mod edition;
+mod laws;
 mod list;
 mod no_memory;
 mod syntax;
@@ -9,6 +11,8 @@ mod token;
 mod want;
 mod world;
 
+pub use edition::Edition;
+pub use laws::refused_is_lowest;
 pub use list::List;
 pub use no_memory::NoMemory;
 pub use syntax::{

@@ -1,5 +1,5 @@
 -- Words to write specifications with: each example's text stands above it, in its own notation.
-use Rattle.std.specs.Prelude.{ℕ, zero, suc, ◌+◌, Bool, true, false, List, [], ◌∷◌, ◌++◌, map, Option, Some, None, if◌then◌else◌, ◌==◌, codes}
+use Rattle.std.specs.Prelude.{ℕ, zero, suc, true, false, List, [], ◌∷◌, ◌++◌, map, replicate, Option, Some, None, if◌then◌else◌, ◌==◌, codes}
 use Prim.Native.String.{String}
 use Rattle.rsml_syntax.specs.declared.syntax.Amount.{Amount}
 use Rattle.rsml_syntax.specs.declared.syntax.Amount.TheVariants as amounts
@@ -83,6 +83,16 @@ sum ts = record { terms = ts }
 
 abbrev pub single : Operand → Sum
 single o = sum (more o ∷ [])
+
+abbrev pub the : String → Sum
+the x = single (name (plain x))
+
+abbrev pub num : ℕ → Sum
+num n = single (number n)
+
+-- 1 + 1 + .. + 1, with n terms
+abbrev pub ones : ℕ → Sum
+ones n = sum (replicate n (more (number 1)))
 
 -- TABLES
 
@@ -173,6 +183,18 @@ on trigger guard a = record { trigger = trigger; guard = guard; answer = a }
 
 abbrev pub send : String → Option Amount → List String → List SendCase → Decl
 send x size fields cases = decl.Send (codes x) size (names fields) cases
+
+-- `range R 0 .. 9; input X : R = 0;`
+abbrev pub unarrayed : List Decl → List Decl
+unarrayed decls = range "R" (plus 0) (plus 9) ∷ input "X" None "R" (from (plus 0)) ∷ decls
+
+-- `range R 0 .. 9; input X [2] : R = 0;`
+abbrev pub arrayed : List Decl → List Decl
+arrayed decls = range "R" (plus 0) (plus 9) ∷ input "X" (Some (up_to 2)) "R" (from (plus 0)) ∷ decls
+
+-- `enumeration Switch { Down, Up } input Lever : Switch = Down;`
+abbrev pub switched : List Decl → List Decl
+switched decls = enumeration "Switch" ("Down" ∷ "Up" ∷ []) ∷ input "Lever" None "Switch" (from_name "Down") ∷ decls
 
 -- STATES
 

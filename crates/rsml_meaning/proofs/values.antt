@@ -1,0 +1,16 @@
+pub mod Buses
+pub mod Fork
+pub mod Grades
+pub mod Height
+pub mod Lamp
+pub mod LampShort
+pub mod Meet
+pub mod Nest
+pub mod Pair
+pub mod Panel
+pub mod Plant
+pub mod Ring
+pub mod Rise
+pub mod Tcas
+pub mod Top
+pub mod Tracks

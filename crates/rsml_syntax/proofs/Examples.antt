@@ -1,0 +1,13 @@
+mod Demo
+mod Indices
+mod Kinds
+mod Limits
+mod ManyThresholds
+mod Names
+mod Places
+mod Refused
+mod States
+mod Systems
+mod Texts
+mod Thresholds
+pub mod Writing
