@@ -1,6 +1,7 @@
 -- What the declarations of a flat specification make: events and cells, and no sends, functions or definitions.
 use Rattle.std.proofs.Common.{◌≡◌, ℕ, suc, ◌+◌, ◌-◌, ◌<◌, ◌≤◌, Bool, true, false, cond, ◌&&◌, not, List, [], ◌∷◌, ◌++◌, map, length, flat_map, filter, fold, Option, Some, None, is_none, refl, sym, ap, ◌∙◌, subst, arith, append-nil}
-use Rattle.std.specs.Prelude.{ℤ, pos}
+use Rattle.std.specs.Prelude.{ℤ, pos, ◌-ℤ◌}
+use Rattle.std.proofs.lemmas.Int.{ints}
 use Rattle.std.specs.List.{list_all}
 use Rattle.std.specs.Option.{option_map_or}
 use Rattle.std.specs.Cmp.{first_so, second_so}
@@ -13,8 +14,9 @@ use Rattle.rsml_syntax.specs.declared.world.World.{World}
 use Rattle.rsml_syntax.specs.Names.{Name}
 use Rattle.rsml_syntax.specs.Globals.{Globals, globals, Known, meaning, values_of}
 use Rattle.rsml_meaning.specs.Words.{Instance, at, Each}
+use Rattle.rsml_syntax.specs.Thresholds.{type_ends}
 use Rattle.rsml_meaning.specs.Instances.{events_of, instances}
-use Rattle.rsml_meaning.specs.Cells.{Kind, new_kind, kind_by, kind, no_kind, InputCell, new_cell, initial_number, cells_of}
+use Rattle.rsml_meaning.specs.Cells.{InputType, new_type, type_named, no_type, InputCell, new_cell, initial_number, cells_of}
 use Rattle.rsml_meaning.specs.Interfaces.{sends_of, functions_of, FunctionInstance}
 use Rattle.rsml_meaning.specs.Truth.{View, learn}
 use Rattle.flat_machine.specs.Flat.{is_none_of, enumeration, is_flat_decl, are_flat_decls}
@@ -97,7 +99,7 @@ view_is g v (d ∷ ds) h = ap (λ u. fold learn u ds) (learns_nothing g v d (fir
 pub record IsCell (c : InputCell) (x : FlatInput) : Type 0 where
   pub input_is : c.input ≡ at x.name 0
   pub previous_is : c.previous ≡ false
-  pub kind_is : c.kind ≡ new_kind (pos 0) (pos (length x.values - 1)) x.values
+  pub numbers_is : c.numbers ≡ new_type (pos 0, pos (length x.values - 1)) x.values
   pub has_values : is_none_of x.values ≡ false
 
 -- the lists are as long, and the relation holds at each place
@@ -110,11 +112,18 @@ not_not : (b : Bool) → not b ≡ true → b ≡ false
 not_not true h = differ (sym h)
 not_not false h = refl
 
-kind_of : (k : Known) → is_none_of (values_of k.decl) ≡ false → kind_by k ≡ new_kind (pos 0) (pos (length (values_of k.decl) - 1)) (values_of k.decl)
-kind_of k = of k.decl k.value
+high_of : (n : ℕ) → pos (suc n) -ℤ pos 1 ≡ pos (suc n - 1)
+high_of n = omega (arith, ints)
+
+high : (vs : List Name) → is_none_of vs ≡ false → pos (length vs) -ℤ pos 1 ≡ pos (length vs - 1)
+high [] h = differ h
+high (v ∷ vs) h = high_of (length vs)
+
+type_of : (k : Known) → is_none_of (values_of k.decl) ≡ false → new_type (type_ends k) (values_of k.decl) ≡ new_type (pos 0, pos (length (values_of k.decl) - 1)) (values_of k.decl)
+type_of k = of k.decl k.value
   where
-    of : (d : Decl) (v : Option ℕ) → is_none_of (values_of d) ≡ false → kind_by (record { decl = d; value = v }) ≡ new_kind (pos 0) (pos (length (values_of d) - 1)) (values_of d)
-    of (decl.Enumeration _ vs) v h = refl
+    of : (d : Decl) (v : Option ℕ) → is_none_of (values_of d) ≡ false → new_type (type_ends (record { decl = d; value = v })) (values_of d) ≡ new_type (pos 0, pos (length (values_of d) - 1)) (values_of d)
+    of (decl.Enumeration _ vs) v h = λ i. new_type (pos 0, high vs h i) vs
     of (decl.Event _ _) v h = differ h
     of (decl.Input _ _ _ _) v h = differ h
     of (decl.Receive _ _ _ _) v h = differ h
@@ -124,18 +133,18 @@ kind_of k = of k.decl k.value
     of (decl.Function _ _ _) v h = differ h
     of (decl.Send _ _ _ _) v h = differ h
 
-kind_is : (g : Globals) (name : Name) → is_none_of (enumeration g name) ≡ false → kind g name ≡ new_kind (pos 0) (pos (length (enumeration g name) - 1)) (enumeration g name)
-kind_is g name = by (meaning g name)
+type_is : (g : Globals) (name : Name) → is_none_of (enumeration g name) ≡ false → type_named g name ≡ new_type (pos 0, pos (length (enumeration g name) - 1)) (enumeration g name)
+type_is g name = by (meaning g name)
   where
-    by : (o : Option Known) → is_none_of (option_map_or (λ k. values_of k.decl) o []) ≡ false → option_map_or kind_by o no_kind ≡ new_kind (pos 0) (pos (length (option_map_or (λ k. values_of k.decl) o []) - 1)) (option_map_or (λ k. values_of k.decl) o [])
+    by : (o : Option Known) → is_none_of (option_map_or (λ k. values_of k.decl) o []) ≡ false → option_map_or (λ k. new_type (type_ends k) (values_of k.decl)) o no_type ≡ new_type (pos 0, pos (length (option_map_or (λ k. values_of k.decl) o []) - 1)) (option_map_or (λ k. values_of k.decl) o [])
     by None h = differ h
-    by (Some k) h = kind_of k h
+    by (Some k) h = type_of k h
 
 cell_is : (g : Globals) (d : Decl) → is_flat_decl g d ≡ true → Beside IsCell (cells_of g d) (inputs_of g d)
 cell_is g (decl.Input name (Some n) kind init) h = differ (sym h)
 cell_is g (decl.Input name None kind init) h =
     let some = not_not (is_none_of (enumeration g kind)) h in
-    (record { input_is = refl; previous_is = refl; kind_is = kind_is g kind some; has_values = some }, tt)
+    (record { input_is = refl; previous_is = refl; numbers_is = type_is g kind some; has_values = some }, tt)
 cell_is g (decl.Event _ _) h = tt
 cell_is g (decl.Enumeration _ _) h = tt
 cell_is g (decl.Receive _ _ _ _) h = tt

@@ -3,9 +3,11 @@ pub mod Bodies
 pub mod Columns
 pub mod Declared
 pub mod Flats
+pub mod Guards
 pub mod Least
 pub mod Lookups
 pub mod Loops
 pub mod Previous
 pub mod Products
 pub mod Puts
+pub mod Shape

@@ -1,9 +1,14 @@
 -- What a name is, declaration by declaration.
 use Rattle.std.proofs.lemmas.List.{at_drop_more}
-use Rattle.std.proofs.Common.{◌≡◌, ℕ, zero, suc, ◌+◌, ◌<◌, Bool, true, false, cond, List, [], ◌∷◌, ◌++◌, length, drop, get_or, flat_map, Option, Some, None, refl, sym, ap, ◌∙◌, arith, slice_get, append_assoc, length-append}
+use Rattle.std.proofs.Common.{◌≡◌, ℕ, zero, suc, ◌+◌, ◌<◌, Bool, true, false, cond, List, [], ◌∷◌, ◌++◌, length, drop, get_or, flat_map, Option, Some, None, is_some, MatchOption, subst, refl, sym, ap, ◌∙◌, arith, slice_get, append_assoc, length-append}
 use Rattle.std.specs.List.{position_from}
 use Rattle.std.specs.Option.{option_map, option_map_or, option_or}
 use Rattle.rsml_syntax.specs.declared.syntax.Decl.{Decl}
+use Rattle.rsml_syntax.specs.declared.syntax.Decl.TheVariants as decl
+use Rattle.std.specs.Prelude.{⊤}
+use Rattle.rsml_syntax.specs.Uses.{is_input}
+use Rattle.rsml_meaning.specs.Words.{Each}
+use Rattle.flat_machine.proofs.Basics.{differ, each_append}
 use Rattle.rsml_syntax.specs.Names.{Name, same, place_of}
 use Rattle.rsml_syntax.specs.Globals.{Known, Globals, globals, meaning, name_of, values_of, known_by, names_of, known_values}
 
@@ -67,6 +72,41 @@ length-known (d ∷ ds) = ap suc (length-append (values_of d) (flat_map names_of
 
 meaning_is : (ds : List Decl) (n : Name) → meaning (globals ds) n ≡ seek (same n) (flat_map names_of ds) (flat_map known_by ds)
 meaning_is ds n = seek_is (same n) [] (flat_map names_of ds) (flat_map known_by ds) (length-known ds)
+
+seek_has : {A B : Type 0} (P : B → Type 0) (test : A → Bool) (xs : List A) (ys : List B) → Each P ys → MatchOption (seek test xs ys) ⊤ P
+seek_has P test [] ys h = tt
+seek_has P test (x ∷ xs) [] h = tt
+seek_has {A} {B} P test (x ∷ xs) (y ∷ ys) h = cases (test x) (seek_has P test xs ys h.1)
+  where
+    cases : (b : Bool) → MatchOption (seek test xs ys) ⊤ P → MatchOption (cond b (Some y) (seek test xs ys)) ⊤ P
+    cases true e = h.0
+    cases false e = e
+
+-- A value belongs to an enumeration, and is no input.
+abbrev IsApart : Known → Type 0
+IsApart k = is_some k.value ≡ true → is_input k ≡ false
+
+values_apart : (name : Name) (all : List Name) (p : ℕ) (vs : List Name) → Each IsApart (known_values (decl.Enumeration name all) p vs)
+values_apart name all p [] = tt
+values_apart name all p (v ∷ vs) = (λ e. refl, values_apart name all (p + 1) vs)
+
+known_apart : (d : Decl) → Each IsApart (known_values d 0 (values_of d))
+known_apart (decl.Enumeration name vs) = values_apart name vs 0 vs
+known_apart (decl.Range _ _ _) = tt
+known_apart (decl.Constant _ _) = tt
+known_apart (decl.Input _ _ _ _) = tt
+known_apart (decl.Event _ _) = tt
+known_apart (decl.Macro _ _ _) = tt
+known_apart (decl.Function _ _ _) = tt
+known_apart (decl.Receive _ _ _ _) = tt
+known_apart (decl.Send _ _ _ _) = tt
+
+all_apart : (ds : List Decl) → Each IsApart (flat_map known_by ds)
+all_apart [] = tt
+all_apart (d ∷ ds) = (λ e. differ (sym e), each_append IsApart (known_values d 0 (values_of d)) (flat_map known_by ds) (known_apart d) (all_apart ds))
+
+pub value_apart : (ds : List Decl) (n : Name) → MatchOption (meaning (globals ds) n) ⊤ IsApart
+value_apart ds n = subst (λ o. MatchOption o ⊤ IsApart) (sym (meaning_is ds n)) (seek_has IsApart (same n) (flat_map names_of ds) (flat_map known_by ds) (all_apart ds))
 
 abbrev itself : Decl → Known
 itself d = record { decl = d; value = None }
