@@ -4,9 +4,11 @@ pub mod Columns
 pub mod Declared
 pub mod Flats
 pub mod Guards
+pub mod Kept
 pub mod Least
 pub mod Lookups
 pub mod Loops
+pub mod Numbers
 pub mod Previous
 pub mod Products
 pub mod Puts
