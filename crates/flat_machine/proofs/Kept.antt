@@ -45,7 +45,7 @@ each_numbered P n (t ∷ ts) h = (h.0, each_numbered P (suc n) ts h.1)
 
 -- TESTS OF PATHS
 
-same_top : (top : Name) → same_instance (at top 0) (at top 0) ≡ true
+pub same_top : (top : Name) → same_instance (at top 0) (at top 0) ≡ true
 same_top top = ap (λ b. b && true) (same_self top)
 
 same_back : (a b : Name) → same a b ≡ same b a

@@ -2,13 +2,16 @@ pub mod Basics
 pub mod Bodies
 pub mod Columns
 pub mod Declared
+pub mod Enabled
 pub mod Flats
 pub mod Guards
+pub mod Judged
 pub mod Kept
 pub mod Least
 pub mod Lookups
 pub mod Loops
 pub mod Numbers
+pub mod Places
 pub mod Previous
 pub mod Products
 pub mod Puts

@@ -146,7 +146,7 @@ inside_silent g name Basic h rest e = e
 inside_silent g name (One' _ _ row _ _) h rest e = row_silent true None [] name _ row (first_so _ _ h) rest e
 inside_silent g name (All' _ _) h rest e = differ (sym h)
 
-transitions_of_body : (g : Globals) (b : Body) → is_flat_body g b ≡ true → are_flat_transitions g (transitions_of b) ≡ true
+pub transitions_of_body : (g : Globals) (b : Body) → is_flat_body g b ≡ true → are_flat_transitions g (transitions_of b) ≡ true
 transitions_of_body g b h = second_so (is_none_of (buses_of b)) _ (second_so (are_flat_children (children_of b)) _ (second_so (not (is_all b)) _ h))
 
 pub no_previous : (s : Spec) (g : Globals) → are_flat_decls g s.decls ≡ true → is_flat_body g s.body ≡ true → (name : Name) → names_previous s name ≡ false

@@ -1,3 +1,4 @@
+pub mod Answered
 pub mod Beside
 pub mod Flat
 pub mod FlatTexts
