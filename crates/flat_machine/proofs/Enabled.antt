@@ -120,7 +120,7 @@ module _ (name : Name) (decls : List Decl) (top : Name) (ds : are_flat_decls (gl
   members_of_group child event =
       ap (map transition) ((λ i. filter (λ t. is_on (at event 0) t && is_prefix t.source (child_at top child)) (transitions_are name decls top b flat i)) ∙ line_is top child event 1 ts)
 
-  pub IsFlatMember : Name → Name → ℕ × Transition → Type 0
+  unfoldable pub IsFlatMember : Name → Name → ℕ × Transition → Type 0
   IsFlatMember child event t = (is_flat_transition g t.1 ≡ true) × (is_kept child event t ≡ true)
 
   pub kept_are_flat : (child event : Name) → Each (IsFlatMember child event) (kept_from child event 1 ts)
@@ -129,7 +129,7 @@ module _ (name : Name) (decls : List Decl) (top : Name) (ds : are_flat_decls (gl
       each_kept (λ (t : ℕ × Transition). is_flat_transition g t.1 ≡ true) (is_kept child event) (numbered ts)
       (each_numbered (λ t. is_flat_transition g t ≡ true) 1 ts (each_from_all (is_flat_transition g) ts (transitions_of_body g b flat)))
 
-  source_is : (child event : Name) (t : ℕ × Transition) → IsFlatMember child event t → t.1.source ≡ child
+  pub source_is : (child event : Name) (t : ℕ × Transition) → IsFlatMember child event t → t.1.source ≡ child
   unfolding IsFlatMember
   source_is child event t h = same_is t.1.source child (second_so (same t.1.trigger.name event) (same t.1.source child) h.1)
 

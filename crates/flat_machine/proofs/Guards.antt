@@ -62,7 +62,7 @@ input_number name (c ∷ cs) (x ∷ xs) (n ∷ ns) h a = ap chosen test ∙ case
 
 -- NUMBERS
 
-equal : (a b : ℕ) → int_eq (pos a) (pos b) ≡ (a == b)
+pub equal : (a b : ℕ) → int_eq (pos a) (pos b) ≡ (a == b)
 equal a b = same_from_decides (int_eq (pos a) (pos b)) (a == b) (Decides-int_eq (pos a) (pos b)) (Decides-like (a == b) (ap pos) (λ e. injected e) (Decides-eqb a b))
   where
     injected : pos a ≡ pos b → a ≡ b

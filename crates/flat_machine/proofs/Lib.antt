@@ -1,5 +1,6 @@
 pub mod Basics
 pub mod Bodies
+pub mod Chains
 pub mod Columns
 pub mod Declared
 pub mod Enabled
@@ -15,4 +16,6 @@ pub mod Places
 pub mod Previous
 pub mod Products
 pub mod Puts
+pub mod Reports
 pub mod Shape
+pub mod Told

@@ -1,8 +1,9 @@
 -- The step and the end of a loop that puts a list for each item behind what is there.
-use Rattle.std.proofs.Common.{◌≡◌, ℕ, zero, suc, ◌+◌, ◌<◌, ◌≤◌, Bool, true, false, cond, List, [], ◌∷◌, ◌++◌, length, drop, get_or, slice_get, flat_map, filter, zip, Option, Some, None, refl, sym, ap, ◌∙◌, append_assoc, append-nil, add-one, arith}
+use Rattle.std.proofs.Common.{◌≡◌, ℕ, zero, suc, ◌+◌, ◌<◌, ◌≤◌, Bool, true, false, cond, List, [], ◌∷◌, ◌++◌, length, take, drop, get_or, subst, slice_get, flat_map, filter, zip, Option, Some, None, refl, sym, ap, ◌∙◌, append_assoc, append-nil, add-one, arith}
 use Rattle.std.specs.Prelude.{if◌then◌else◌}
 use Rattle.flat_machine.specs.Beside.{beside}
-use Rattle.std.proofs.lemmas.List.{at_drop_more, at_drop_all}
+use Rattle.std.proofs.lemmas.List.{at_drop_more, at_drop_all, take_more}
+use Rattle.std.specs.List.{AllZip}
 
 module _ {A B : Type 0} (piece : A → List B) (xs : List A) (i : ℕ) where
   pub piece_put : (x : A) (put all : List B) → i < length xs → x ≡ get_or xs i x → put ++ flat_map piece (drop i xs) ≡ all → (put ++ piece x) ++ flat_map piece (drop (i + 1) xs) ≡ all
@@ -57,3 +58,14 @@ module _ {A B : Type 0} (f : A → List B) (test : A → Bool) (xs : List A) (i 
 
   pub all_kept : (put all : List B) → length xs ≤ i → put ++ flat_map f (filter test (drop i xs)) ≡ all → put ≡ all
   all_kept put all past so_far = sym (at_drop_all (λ ys. put ++ flat_map f (filter test ys)) xs i past ∙ append-nil put) ∙ so_far
+
+zipped_push : {A B : Type 0} (R : A → B → Type 0) (xs : List A) (ys : List B) (x : A) (y : B) → AllZip R xs ys → R x y → AllZip R (xs ++ x ∷ []) (ys ++ y ∷ [])
+zipped_push R [] [] x y h r = (r, tt)
+zipped_push R [] (z ∷ ys) x y h r = elim h [ ]
+zipped_push R (z ∷ xs) [] x y h r = elim h [ ]
+zipped_push R (z ∷ xs) (u ∷ ys) x y h r = (h.0, zipped_push R xs ys x y h.1 r)
+
+-- the step of a loop that finds one thing for each item
+pub zipped_more : {A B : Type 0} (R : A → B → Type 0) (xs : List A) (ys : List B) (i : ℕ) (x : A) (y : B) → i < length xs → x ≡ get_or xs i x → AllZip R (take i xs) ys → R x y → AllZip R (take (i + 1) xs) (ys ++ y ∷ [])
+zipped_more R xs ys i x y within is so_far here =
+    subst (λ zs. AllZip R zs (ys ++ y ∷ [])) (sym (take_more xs i x within ∙ (λ j. take i xs ++ sym is j ∷ []))) (zipped_push R (take i xs) ys x y so_far here)

@@ -1,6 +1,6 @@
 -- Going through the values of all inputs: the least in which a group fails.
 use Rattle.std.specs.Prelude.{◌≡◌, ℕ, ◌<◌, ◌⊎◌, Bool, true, false, List, [], ◌∷◌, ◌++◌, map, length, ◌==◌, nat_le, ⊤}
-use Rattle.flat_machine.specs.Machine.{Numbers, FlatInput, FlatMember, enabled_in}
+use Rattle.flat_machine.specs.Machine.{Numbers, FlatInput, FlatMember, FlatGroup, enabled_in}
 use Rattle.flat_machine.specs.declared.search.Failure.{Failure}
 use Rattle.flat_machine.specs.declared.search.Failure.TheVariants as failures
 use Rattle.flat_machine.specs.declared.verdict.Verdict.{Verdict}
@@ -47,3 +47,6 @@ abbrev pub IsFound : List ℕ → List FlatMember → Verdict → Type 0
 IsFound sizes ms verdicts.Sound = (ns : Numbers) → AreNumbers sizes ns → length (enabled_in ns ms) ≡ 1
 IsFound sizes ms (verdicts.Missing found) = IsLeastFrom failures.Missing ms sizes [] found.items
 IsFound sizes ms (verdicts.Double found) = Passes failures.Missing ms sizes [] × IsLeastFrom failures.Double ms sizes [] found.items
+
+abbrev pub IsFoundOf : List ℕ → FlatGroup → Verdict → Type 0
+IsFoundOf sizes g v = IsFound sizes g.members v

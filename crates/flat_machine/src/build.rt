@@ -33,7 +33,7 @@ fn input_of<'a>(decls: &'a [Decl], decl: &'a Decl) -> Option<FlatInput<'a>>
 }
 
 /// The inputs, in order.
-fn inputs<'a>(alloc: Global, decls: &'a [Decl]) -> Result<Vec<FlatInput<'a>>, NoMemory>
+pub fn inputs<'a>(alloc: Global, decls: &'a [Decl]) -> Result<Vec<FlatInput<'a>>, NoMemory>
     ensures { IfOk result (λ v. v.items ≡ machine.inputs_in (known.globals decls.now) decls.now) }
 {
     let mut found = Vec::new(alloc);
@@ -195,7 +195,7 @@ fn put_groups_at<'a>(alloc: Global, whole: &Whole<'a>, child: &'a StateDecl, gro
 }
 
 /// The groups of these children.
-fn groups_in<'a>(alloc: Global, whole: &Whole<'a>, children: &'a [StateDecl]) -> Result<Vec<FlatGroup<'a>>, NoMemory>
+pub fn groups_in<'a>(alloc: Global, whole: &Whole<'a>, children: &'a [StateDecl]) -> Result<Vec<FlatGroup<'a>>, NoMemory>
     ensures { IfOk result (λ v. v.items ≡ machine.groups_in (known.globals whole.now.decls.now) whole.now.inputs.items whole.now.transitions.now whole.now.decls.now children.now) }
 {
     let mut groups = Vec::new(alloc);

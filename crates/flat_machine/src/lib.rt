@@ -6,6 +6,7 @@ mod build;
 mod flat;
 mod lookup;
 mod machine;
+mod report;
 mod search;
 mod text;
 mod truth;

@@ -338,3 +338,20 @@ fn put_head(out: &mut Vec<u8>, name: &[u8], groups: usize) -> Result<(), NoMemor
     put_number(out, groups)?;
     put(out, b"\n")
 }
+
+/// The whole report.
+pub fn put_report(
+    out: &mut Vec<u8>,
+    name: &[u8],
+    decls: &[Decl],
+    names: &Names<'_>,
+    groups: &[FlatGroup<'_>],
+    verdicts: &[Verdict],
+) -> Result<(), NoMemory>
+    ensures { OnOk result (out.new.items ≡ out.old.items ++ texts.flat_report_text name.now names.now.top.now decls.now names.now.inputs.now names.now.children.now groups.now verdicts.now) }
+{
+    put_head(out, name, groups.len())?;
+    put_chains(out, decls)?;
+    put_findings(out, names, groups, verdicts)?;
+    put_last(out, count_found(verdicts))
+}

@@ -1,0 +1,94 @@
+ghost use Rattle.std.specs.Prelude.{◌≡◌, ◌↔◌, IfOk, IsTrue, map};
+ghost use Rattle.std.specs.List.{AllZip};
+ghost use Rattle.rsml_syntax.specs.Parts as parts;
+ghost use Rattle.rsml_meaning.specs.Report as meaning;
+ghost use Rattle.rsml_meaning.specs.Certified.{Certified};
+ghost use Rattle.flat_machine.specs.Flat as flat;
+ghost use Rattle.flat_machine.specs.Machine as machine;
+ghost use Rattle.flat_machine.specs.Search as search;
+ghost use Rattle.flat_machine.specs.FlatTexts as texts;
+
+use crate::body::{children_of, transitions_of};
+use crate::build::{Whole, groups_in, inputs};
+use crate::machine::{FlatGroup, FlatInput};
+use crate::text::{Names, count_found, put_report};
+use crate::verdict::{Verdict, judge};
+use rsml_syntax::{NoMemory, Spec};
+use std::alloc::Global;
+
+/// How many values each input has.
+fn sizes(alloc: Global, inputs: &[FlatInput<'_>]) -> Result<Vec<usize>, NoMemory>
+    ensures { IfOk result (λ v. v.items ≡ search.sizes inputs.now) }
+{
+    let mut sizes = Vec::new(alloc);
+    for input in inputs {
+        sizes.push(input.values.len())?;
+    }
+    Ok(sizes)
+}
+
+/// What is found of each group.
+fn judge_all(
+    alloc: Global,
+    groups: &[FlatGroup<'_>],
+    sizes: &[usize],
+) -> Result<Vec<Verdict>, NoMemory>
+    ensures { IfOk result (λ v. AllZip (search.IsFoundOf sizes.now) groups.now v.items) }
+{
+    let mut verdicts = Vec::new(alloc);
+    for group in groups {
+        let verdict = judge(alloc, group.members(), sizes)?;
+        verdicts.push(verdict)?;
+    }
+    Ok(verdicts)
+}
+
+/// What the members of groups are made over.
+fn make_whole(alloc: Global, spec: &Spec) -> Result<Whole<'_>, NoMemory>
+    ensures decls { IfOk result (λ w. w.decls.now ≡ spec.now.decls) }
+    ensures inputs { IfOk result (λ w. w.inputs.items ≡ machine.inputs spec.now) }
+    ensures transitions { IfOk result (λ w. w.transitions.now ≡ parts.transitions_of spec.now.body) }
+{
+    let decls = spec.decls.as_slice();
+    let inputs = inputs(alloc, decls)?;
+    Ok(Whole {
+        decls,
+        inputs,
+        transitions: transitions_of(&spec.body),
+    })
+}
+
+/// The groups of a specification, in order.
+fn groups<'a>(
+    alloc: Global,
+    spec: &'a Spec,
+    whole: &Whole<'a>,
+) -> Result<Vec<FlatGroup<'a>>, NoMemory>
+    requires decls { whole.now.decls.now ≡ spec.now.decls }
+    requires inputs { whole.now.inputs.items ≡ machine.inputs spec.now }
+    requires transitions { whole.now.transitions.now ≡ parts.transitions_of spec.now.body }
+    ensures { IfOk result (λ v. v.items ≡ machine.flat_groups spec.now) }
+{
+    groups_in(alloc, whole, children_of(&spec.body))
+}
+
+/// The text of the report over these verdicts.
+fn write(
+    alloc: Global,
+    spec: &Spec,
+    inputs: &[FlatInput<'_>],
+    groups: &[FlatGroup<'_>],
+    verdicts: &[Verdict],
+) -> Result<Vec<u8>, NoMemory>
+    ensures { IfOk result (λ v. v.items ≡ texts.flat_report_text spec.now.name spec.now.top spec.now.decls inputs.now (parts.children_of spec.now.body) groups.now verdicts.now) }
+{
+    let mut out = Vec::new(alloc);
+    let names = Names {
+        top: &spec.top,
+        children: children_of(&spec.body),
+        inputs,
+    };
+    let decls = spec.decls.as_slice();
+    put_report(&mut out, spec.name.bytes(), decls, &names, groups, verdicts)?;
+    Ok(out)
+}
