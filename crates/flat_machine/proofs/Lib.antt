@@ -19,3 +19,4 @@ pub mod Puts
 pub mod Reports
 pub mod Shape
 pub mod Told
+pub mod Whole

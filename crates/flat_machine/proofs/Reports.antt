@@ -127,13 +127,13 @@ module _ (name : Name) (decls : List Decl) (top : Name) (ds : are_flat_decls (gl
   -- VERDICTS
 
   module _ (comp : HasComponent s top (names_of cs)) where
-    right_verdicts : (gs : List FlatGroup) (vs : List Judgement) → Each (IsGroup g xs b) gs → AllZip (IsFoundOf (sizes xs)) gs vs → AllZip (IsVerdict s) (map (group_of top) gs) (map (told cs) (zip gs vs))
+    pub right_verdicts : (gs : List FlatGroup) (vs : List Judgement) → Each (IsGroup g xs b) gs → AllZip (IsFoundOf (sizes xs)) gs vs → AllZip (IsVerdict s) (map (group_of top) gs) (map (told cs) (zip gs vs))
     right_verdicts [] [] h f = tt
     right_verdicts [] (v ∷ vs) h f = elim f [ ]
     right_verdicts (x ∷ gs) [] h f = elim f [ ]
     right_verdicts (x ∷ gs) (v ∷ vs) h f = (judged name decls top ds b flat comp x h.0 v f.0, right_verdicts gs vs h.1 f.1)
 
-    right_findings : (gs : List FlatGroup) (vs : List Judgement) → Each (IsGroup g xs b) gs → AllZip (IsFoundOf (sizes xs)) gs vs →
+    pub right_findings : (gs : List FlatGroup) (vs : List Judgement) → Each (IsGroup g xs b) gs → AllZip (IsFoundOf (sizes xs)) gs vs →
         flat_map (finding s) (zip (map (group_of top) gs) (map (told cs) (zip gs vs))) ≡ flat_map (flat_finding top xs cs) (zip gs vs)
     right_findings [] [] h f = refl
     right_findings [] (v ∷ vs) h f = elim f [ ]
@@ -162,7 +162,7 @@ module _ (name : Name) (decls : List Decl) (top : Name) (ds : are_flat_decls (gl
         of true e = absurd (omega (arith, e))
         of false e = refl
 
-    all_sound : (gs : List FlatGroup) (vs : List Judgement) → Each (IsGroup g xs b) gs → AllZip (IsFoundOf (sizes xs)) gs vs → length (filter is_found vs) ≡ 0 → Each (Sound s) (map (group_of top) gs)
+    pub all_sound : (gs : List FlatGroup) (vs : List Judgement) → Each (IsGroup g xs b) gs → AllZip (IsFoundOf (sizes xs)) gs vs → length (filter is_found vs) ≡ 0 → Each (Sound s) (map (group_of top) gs)
     all_sound [] [] h f e = tt
     all_sound [] (v ∷ vs) h f e = elim f [ ]
     all_sound (x ∷ gs) [] h f e = elim f [ ]
@@ -172,7 +172,7 @@ module _ (name : Name) (decls : List Decl) (top : Name) (ds : are_flat_decls (gl
         of true p e rest = absurd (omega (arith, e))
         of false p e rest = (is_sound (group_of top x) x.child v (judged name decls top ds b flat comp x h.0 v f.0) p, rest e)
 
-    all_found_so : (gs : List FlatGroup) (vs : List Judgement) → Each (IsGroup g xs b) gs → AllZip (IsFoundOf (sizes xs)) gs vs → Each (Sound s) (map (group_of top) gs) → length (filter is_found vs) ≡ 0
+    pub all_found_so : (gs : List FlatGroup) (vs : List Judgement) → Each (IsGroup g xs b) gs → AllZip (IsFoundOf (sizes xs)) gs vs → Each (Sound s) (map (group_of top) gs) → length (filter is_found vs) ≡ 0
     all_found_so [] [] h f e = refl
     all_found_so [] (v ∷ vs) h f e = elim f [ ]
     all_found_so (x ∷ gs) [] h f e = elim f [ ]

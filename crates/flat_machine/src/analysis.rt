@@ -11,6 +11,7 @@ ghost use Rattle.flat_machine.specs.FlatTexts as texts;
 use crate::body::{children_of, transitions_of};
 use crate::build::{Whole, groups_in, inputs};
 use crate::machine::{FlatGroup, FlatInput};
+use crate::result::Report;
 use crate::text::{Names, count_found, put_report};
 use crate::verdict::{Verdict, judge};
 use rsml_syntax::{NoMemory, Spec};
@@ -91,4 +92,23 @@ fn write(
     let decls = spec.decls.as_slice();
     put_report(&mut out, spec.name.bytes(), decls, &names, groups, verdicts)?;
     Ok(out)
+}
+
+/// Analyses a flat specification by going through all of its worlds. It takes one call deep for each
+/// input, so the limits should be kept. The only error is want of memory.
+pub fn report(alloc: Global, spec: &Spec) -> Result<Report, NoMemory>
+    requires { IsTrue (flat.is_flat spec.now) }
+    ensures text { IfOk result (λ r. meaning.IsReport spec.now r.text.items) }
+    ensures certified { IfOk result (λ r. IsTrue r.certified ↔ Certified spec.now) }
+{
+    let whole = make_whole(alloc, spec)?;
+    let inputs = whole.inputs.as_slice();
+    let groups = groups(alloc, spec, &whole)?;
+    let sizes = sizes(alloc, inputs)?;
+    let verdicts = judge_all(alloc, groups.as_slice(), sizes.as_slice())?;
+    let text = write(alloc, spec, inputs, groups.as_slice(), verdicts.as_slice())?;
+    Ok(Report {
+        text,
+        certified: count_found(verdicts.as_slice()) == 0,
+    })
 }
