@@ -28,7 +28,7 @@ use Rattle.rsml_meaning.specs.Texts.{Text, text_line}
 use Rattle.rsml_meaning.specs.Report.{Answers, AreRight, IsReport, externals, chain_line, looping, loop_line, clash_line, finding, is_finding, refusals, last_line, report_text}
 use Rattle.flat_machine.specs.Flat.{is_flat_decl, is_flat_body, are_flat_decls, worlds, is_flat}
 use Rattle.flat_machine.specs.Machine.{FlatInput, FlatGroup, inputs_in, inputs, flat_groups}
-use Rattle.flat_machine.specs.Search.{sizes, IsFoundOf}
+use Rattle.flat_machine.specs.Search.{sizes, IsFoundOf, AreFound}
 use Rattle.flat_machine.specs.FlatTexts.{raises, is_raised, chain_text, event_text, chain_of, flat_finding, is_found, head_text, flat_report_text}
 use Rattle.flat_machine.specs.Answered.{told, told_of, one_long, without_clash, without_loop, answers}
 use Rattle.flat_machine.specs.declared.verdict.Verdict.{Verdict}
@@ -171,7 +171,7 @@ module _ (name : Name) (decls : List Decl) (top : Name) (ds : are_flat_decls (gl
     ]
 
   module _ (vs : List Verdict) (h : AllZip (IsFoundOf (sizes xs)) (flat_groups s) vs) where
-    are_right : AreRight s (answers s vs)
+    pub are_right : AreRight s (answers s vs)
     are_right = record {
         lengths = lengths_right name decls top b flat;
         clashes = clashes_right name decls top b flat;
@@ -197,9 +197,6 @@ module _ (name : Name) (decls : List Decl) (top : Name) (ds : are_flat_decls (gl
         append_assoc (text_line (codes "specification " ++ name)) (text_line (codes "groups " ++ decimal (length (flat_groups s)))) (flat_map (chain_of decls) decls ++ (flat_map (flat_finding top xs cs) (zip (flat_groups s) vs) ++ last_line (length (filter is_found vs))))
         ∙ sym (λ i. text_line (codes "specification " ++ name) ++ (text_line (codes "groups " ++ decimal (length_is i)) ++ (chains_are i ++ (flat_map loop_line (no_loops (events s) i) ++ (clashes_are i ++ (findings_are i ++ last_line (count_is i)))))))
 
-    pub is_report : IsReport s (flat_report_text name top decls xs cs (flat_groups s) vs)
-    is_report = (answers s vs, are_right, text_is)
-
     pub certifies : IsTrue (length (filter is_found vs) == 0) ↔ Certified s
     certifies = (λ e. record {
         sound = subst (Each (Sound s)) (sym (groups_are name decls top ds b flat)) ((shown vs h).sound (eqb-true (length (filter is_found vs)) 0 e));
@@ -207,28 +204,30 @@ module _ (name : Name) (decls : List Decl) (top : Name) (ds : are_flat_decls (gl
         no_clash = no_clash name decls top b flat;
       }, λ c. eq-eqb (length (filter is_found vs)) 0 ((shown vs h).found (subst (Each (Sound s)) (groups_are name decls top ds b flat) c.sound)))
 
--- The report over what is found of the groups is the report.
-pub report_is : (s : Spec) → is_flat s ≡ true → (vs : List Verdict) → AllZip (IsFoundOf (sizes (inputs s))) (flat_groups s) vs → IsReport s (flat_report_text s.name s.top s.decls (inputs s) (children_of s.body) (flat_groups s) vs)
-report_is s h vs found =
-    let decls = first_so (are_flat_decls (globals s.decls) s.decls) (is_flat_body (globals s.decls) s.body && nat_le (worlds s) 65536) h in
-    let body = first_so (is_flat_body (globals s.decls) s.body) (nat_le (worlds s) 65536) (second_so (are_flat_decls (globals s.decls) s.decls) (is_flat_body (globals s.decls) s.body && nat_le (worlds s) 65536) h) in
-    is_report s.name s.decls s.top decls s.body body vs found
+-- A flat specification and what is found of its groups.
+module _ (s : Spec) (h : is_flat s ≡ true) (vs : List Verdict) (found : AreFound s vs) where
+  flat_decls : are_flat_decls (globals s.decls) s.decls ≡ true
+  flat_decls = first_so (are_flat_decls (globals s.decls) s.decls) (is_flat_body (globals s.decls) s.body && nat_le (worlds s) 65536) h
 
--- It certifies where no group is found not to be sound.
-pub certified_is : (s : Spec) → is_flat s ≡ true → (vs : List Verdict) → AllZip (IsFoundOf (sizes (inputs s))) (flat_groups s) vs → IsTrue (length (filter is_found vs) == 0) ↔ Certified s
-certified_is s h vs found =
-    let decls = first_so (are_flat_decls (globals s.decls) s.decls) (is_flat_body (globals s.decls) s.body && nat_le (worlds s) 65536) h in
-    let body = first_so (is_flat_body (globals s.decls) s.body) (nat_le (worlds s) 65536) (second_so (are_flat_decls (globals s.decls) s.decls) (is_flat_body (globals s.decls) s.body && nat_le (worlds s) 65536) h) in
-    certifies s.name s.decls s.top decls s.body body vs found
+  flat_body : is_flat_body (globals s.decls) s.body ≡ true
+  flat_body = first_so (is_flat_body (globals s.decls) s.body) (nat_le (worlds s) 65536) (second_so (are_flat_decls (globals s.decls) s.decls) (is_flat_body (globals s.decls) s.body && nat_le (worlds s) 65536) h)
 
--- The same of lists that are equal to those of the specification.
-module _ (s : Spec) (h : is_flat s ≡ true) (xs : List FlatInput) (ss : List ℕ) (gs : List FlatGroup) (vs : List Verdict)
-    (inputs_are : xs ≡ inputs s) (sizes_are : ss ≡ sizes xs) (groups_are : gs ≡ flat_groups s) (found : AllZip (IsFoundOf ss) gs vs) where
-  found_of : AllZip (IsFoundOf (sizes (inputs s))) (flat_groups s) vs
-  found_of = subst (λ gs. AllZip (IsFoundOf (sizes (inputs s))) gs vs) groups_are (subst (λ ss. AllZip (IsFoundOf ss) gs vs) (sizes_are ∙ ap sizes inputs_are) found)
+  answers_are_right : AreRight s (answers s vs)
+  answers_are_right = are_right s.name s.decls s.top flat_decls s.body flat_body vs found
 
-  pub reported : (text : Text) → text ≡ flat_report_text s.name s.top s.decls xs (children_of s.body) gs vs → IsReport s text
-  reported text e = subst (IsReport s) (sym (e ∙ (λ i. flat_report_text s.name s.top s.decls (inputs_are i) (children_of s.body) (groups_are i) vs))) (report_is s h vs found_of)
+  pub verdicts_are_right : AllZip (IsVerdict s) (groups s) (answers s vs).verdicts
+  verdicts_are_right = answers_are_right.verdicts
 
-  pub certified : (n : ℕ) → n ≡ length (filter is_found vs) → IsTrue (n == 0) ↔ Certified s
-  certified n e = subst (λ n. IsTrue (n == 0) ↔ Certified s) (sym e) (certified_is s h vs found_of)
+  pub text_told : (xs : List FlatInput) (gs : List FlatGroup) (text : Text) → xs ≡ inputs s → gs ≡ flat_groups s → text ≡ flat_report_text s.name s.top s.decls xs (children_of s.body) gs vs → text ≡ report_text s (answers s vs)
+  text_told inputs_given groups_given text p q e = e ∙ ((λ i. flat_report_text s.name s.top s.decls (p i) (children_of s.body) (q i) vs) ∙ text_is s.name s.decls s.top flat_decls s.body flat_body vs found)
+
+  pub report_is : (text : Text) → text ≡ report_text s (answers s vs) → IsReport s text
+  report_is text e = (answers s vs, answers_are_right, e)
+
+  pub certified_is : (n : ℕ) → n ≡ length (filter is_found vs) → IsTrue (n == 0) ↔ Certified s
+  certified_is n e = subst (λ n. IsTrue (n == 0) ↔ Certified s) (sym e) (certifies s.name s.decls s.top flat_decls s.body flat_body vs found)
+
+-- what is found of these groups over these sizes is found of the specification's
+pub are_found : (s : Spec) (xs : List FlatInput) (ss : List ℕ) (gs : List FlatGroup) (vs : List Verdict) → xs ≡ inputs s → ss ≡ sizes xs → gs ≡ flat_groups s → AllZip (IsFoundOf ss) gs vs → AreFound s vs
+are_found spec inputs_given ss groups_given vs p q r found =
+    subst (λ gs. AllZip (IsFoundOf (sizes (inputs spec))) gs vs) r (subst (λ ss. AllZip (IsFoundOf ss) groups_given vs) (q ∙ ap sizes p) found)

@@ -1,6 +1,8 @@
 -- Going through the values of all inputs: the least in which a group fails.
 use Rattle.std.specs.Prelude.{◌≡◌, ℕ, ◌<◌, ◌⊎◌, Bool, true, false, List, [], ◌∷◌, ◌++◌, map, length, ◌==◌, nat_le, ⊤}
-use Rattle.flat_machine.specs.Machine.{Numbers, FlatInput, FlatMember, FlatGroup, enabled_in}
+use Rattle.std.specs.List.{AllZip}
+use Rattle.rsml_syntax.specs.declared.syntax.Spec.{Spec}
+use Rattle.flat_machine.specs.Machine.{Numbers, FlatInput, FlatMember, FlatGroup, inputs, flat_groups, enabled_in}
 use Rattle.flat_machine.specs.declared.search.Failure.{Failure}
 use Rattle.flat_machine.specs.declared.search.Failure.TheVariants as failures
 use Rattle.flat_machine.specs.declared.verdict.Verdict.{Verdict}
@@ -50,3 +52,7 @@ IsFound sizes ms (verdicts.Double found) = Passes failures.Missing ms sizes [] �
 
 abbrev pub IsFoundOf : List ℕ → FlatGroup → Verdict → Type 0
 IsFoundOf sizes g v = IsFound sizes g.members v
+
+-- these are found of the groups of a specification, in order
+abbrev pub AreFound : Spec → List Verdict → Type 0
+AreFound s vs = AllZip (IsFoundOf (sizes (inputs s))) (flat_groups s) vs

@@ -1,12 +1,14 @@
-ghost use Rattle.std.specs.Prelude.{◌≡◌, ◌↔◌, IfOk, IsTrue, map};
+ghost use Rattle.std.specs.Prelude.{◌≡◌, ◌↔◌, IfOk, IsTrue};
 ghost use Rattle.std.specs.List.{AllZip};
 ghost use Rattle.rsml_syntax.specs.Parts as parts;
-ghost use Rattle.rsml_meaning.specs.Report as meaning;
+ghost use Rattle.rsml_meaning.specs.Findings.{IsVerdict};
+ghost use Rattle.rsml_meaning.specs.Groups as meaning;
+ghost use Rattle.rsml_meaning.specs.Report as told;
 ghost use Rattle.rsml_meaning.specs.Certified.{Certified};
 ghost use Rattle.flat_machine.specs.Flat as flat;
 ghost use Rattle.flat_machine.specs.Machine as machine;
 ghost use Rattle.flat_machine.specs.Search as search;
-ghost use Rattle.flat_machine.specs.FlatTexts as texts;
+ghost use Rattle.flat_machine.specs.Answered.{answers};
 
 use crate::body::{children_of, transitions_of};
 use crate::build::{Whole, groups_in, inputs};
@@ -73,24 +75,41 @@ fn groups<'a>(
     groups_in(alloc, whole, children_of(&spec.body))
 }
 
-/// The text of the report over these verdicts.
-fn write(
+/// What is found of each group of a flat specification, in order, by going through all of its
+/// worlds. It takes one call deep for each input, so the limits should be kept. The only error is
+/// want of memory.
+pub fn verdicts(alloc: Global, spec: &Spec) -> Result<Vec<Verdict>, NoMemory>
+    requires { IsTrue (flat.is_flat spec.now) }
+    ensures found { IfOk result (λ v. search.AreFound spec.now v.items) }
+    ensures right { IfOk result (λ v. AllZip (IsVerdict spec.now) (meaning.groups spec.now) (answers spec.now v.items).verdicts) }
+{
+    let whole = make_whole(alloc, spec)?;
+    let groups = groups(alloc, spec, &whole)?;
+    let sizes = sizes(alloc, whole.inputs.as_slice())?;
+    judge_all(alloc, groups.as_slice(), sizes.as_slice())
+}
+
+/// The text of the report on a flat specification over what is found of its groups. Names are
+/// written byte for byte. The only error is want of memory.
+pub fn report_text(
     alloc: Global,
     spec: &Spec,
-    inputs: &[FlatInput<'_>],
-    groups: &[FlatGroup<'_>],
     verdicts: &[Verdict],
 ) -> Result<Vec<u8>, NoMemory>
-    ensures { IfOk result (λ v. v.items ≡ texts.flat_report_text spec.now.name spec.now.top spec.now.decls inputs.now (parts.children_of spec.now.body) groups.now verdicts.now) }
+    requires flat { IsTrue (flat.is_flat spec.now) }
+    requires found { search.AreFound spec.now verdicts.now }
+    ensures { IfOk result (λ t. t.items ≡ told.report_text spec.now (answers spec.now verdicts.now)) }
 {
-    let mut out = Vec::new(alloc);
+    let whole = make_whole(alloc, spec)?;
+    let groups = groups(alloc, spec, &whole)?;
     let names = Names {
         top: &spec.top,
         children: children_of(&spec.body),
-        inputs,
+        inputs: whole.inputs.as_slice(),
     };
     let decls = spec.decls.as_slice();
-    put_report(&mut out, spec.name.bytes(), decls, &names, groups, verdicts)?;
+    let mut out = Vec::new(alloc);
+    put_report(&mut out, spec.name.bytes(), decls, &names, groups.as_slice(), verdicts)?;
     Ok(out)
 }
 
@@ -98,15 +117,11 @@ fn write(
 /// input, so the limits should be kept. The only error is want of memory.
 pub fn report(alloc: Global, spec: &Spec) -> Result<Report, NoMemory>
     requires { IsTrue (flat.is_flat spec.now) }
-    ensures text { IfOk result (λ r. meaning.IsReport spec.now r.text.items) }
+    ensures text { IfOk result (λ r. told.IsReport spec.now r.text.items) }
     ensures certified { IfOk result (λ r. IsTrue r.certified ↔ Certified spec.now) }
 {
-    let whole = make_whole(alloc, spec)?;
-    let inputs = whole.inputs.as_slice();
-    let groups = groups(alloc, spec, &whole)?;
-    let sizes = sizes(alloc, inputs)?;
-    let verdicts = judge_all(alloc, groups.as_slice(), sizes.as_slice())?;
-    let text = write(alloc, spec, inputs, groups.as_slice(), verdicts.as_slice())?;
+    let verdicts = verdicts(alloc, spec)?;
+    let text = report_text(alloc, spec, verdicts.as_slice())?;
     Ok(Report {
         text,
         certified: count_found(verdicts.as_slice()) == 0,

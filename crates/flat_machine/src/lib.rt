@@ -13,6 +13,7 @@ mod text;
 mod truth;
 mod verdict;
 
-pub use analysis::report;
+pub use analysis::{report, report_text, verdicts};
 pub use flat::is_flat;
 pub use result::Report;
+pub use verdict::Verdict;
