@@ -5,7 +5,9 @@ use bdd_core::{Arena, Ref};
 use rsml_syntax::NoMemory;
 
 const VARIABLES: u32 = 60;
+
 const COLUMNS: u32 = 5;
+
 const ROWS: u32 = 3;
 
 // Numbers that look random, the same in each run.

@@ -1,5 +1,6 @@
 /// The places of the two constants.
 pub(crate) const FALSE: u32 = 0;
+
 pub(crate) const TRUE: u32 = 1;
 
 /// A node: where its level is false it goes on with `low`, and where it is true with `high`. Both are places of nodes.

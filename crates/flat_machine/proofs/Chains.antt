@@ -66,9 +66,9 @@ module _ (name : Name) (decls : List Decl) (top : Name) (b : Body) (flat : is_fl
 
   pub length_is : (x : Instance) → is_external s x ≡ true → IsLength s x 1
   length_is x h = record {
-      reached = (x ∷ [], (λ i. (h i && true) && instance_self x i), refl);
-      most = λ es c. short es (first_so (is_chain s es) (begins_with x es) c);
-    }
+    reached = (x ∷ [], (λ i. (h i && true) && instance_self x i), refl);
+    most = λ es c. short es (first_so (is_chain s es) (begins_with x es) c);
+  }
 
   pub no_loop : (e : Instance) → Loops s e → ⊥
   no_loop e l = absurd (omega (arith, filter_shorter (same_instance e) l.0, short l.0 l.1, l.2))

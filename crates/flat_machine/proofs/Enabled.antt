@@ -149,7 +149,7 @@ module _ (name : Name) (decls : List Decl) (top : Name) (ds : are_flat_decls (gl
         ∙ (filter-map (enabled (bare s w)) transition (map (lead top) (kept_from child event 1 ts))
         ∙ ap (map transition) (filter-map (is_enabled (bare s w)) (lead top) (kept_from child event 1 ts)
         ∙ ap (map (lead top)) (filter_same (λ (t : ℕ × Transition). is_enabled (bare s w) (lead top t)) (λ (t : ℕ × Transition). guard_truth ns (rows_of g xs t.1.guard)) (kept_from child event 1 ts)
-            (each_more (IsFlatMember child event) (λ (t : ℕ × Transition). is_enabled (bare s w) (lead top t) ≡ guard_truth ns (rows_of g xs t.1.guard)) one_enabled (kept_from child event 1 ts) (kept_are_flat child event)))))
+        (each_more (IsFlatMember child event) (λ (t : ℕ × Transition). is_enabled (bare s w) (lead top t) ≡ guard_truth ns (rows_of g xs t.1.guard)) one_enabled (kept_from child event 1 ts) (kept_are_flat child event)))))
 
     pub count_is : (ms : List FlatMember) → ms ≡ members_from g xs child event 1 ts → enabled_count s (state (child_at top child) (at event 0)) (view s w) ≡ length (enabled_in ns ms)
     count_is ms e =

@@ -53,8 +53,10 @@ input_number name (c ∷ cs) (x ∷ xs) (n ∷ ns) h a = ap chosen test ∙ case
   where
     chosen : Bool → ℤ
     chosen b = unwrap_or (elim (if b then Some (pos n) else None) [ Some y ↦ Some y | None ↦ first_some (held false (at name 0)) (zip cs (map pos ns)) ]) (pos 0)
+
     test : is_cell false (at name 0) c ≡ same x.name name
     test = (λ i. not (h.0.previous_is i) && same_instance (h.0.input_is i) (at name 0)) ∙ and_true (same x.name name)
+
     cases : (b : Bool) → unwrap_or (first_some (held false (at name 0)) (zip cs (map pos ns))) (pos 0) ≡ pos (slice_index ns (input_place name xs)) →
         unwrap_or (elim (if b then Some (pos n) else None) [ Some y ↦ Some y | None ↦ first_some (held false (at name 0)) (zip cs (map pos ns)) ]) (pos 0) ≡ pos (slice_index (n ∷ ns) (if b then 0 else suc (input_place name xs)))
     cases true e = refl
@@ -112,13 +114,16 @@ module _ (decls : List Decl) (v : View) (names : v.names ≡ globals decls) (xs 
           by : (name : Name) (index : Option Index) → option_map_or test (plain_mention (record { name = name; index = index })) false ≡ true → pos 0 +ℤ mentioned v r (record { name = name; index = index }) ≡ pos (value (unwrap_or (plain_mention (record { name = name; index = index })) []))
           by name None h = ap (λ z. pos 0 +ℤ z) (mention name h) ∙ zero_more (value name)
           by name (Some i) h = differ (sym h)
+
       of_operand : (o : Operand) → option_map_or test (plain_operand o) false ≡ true → pos 0 +ℤ operand v r o ≡ pos (value (unwrap_or (plain_operand o) []))
       of_operand (operands.Mention m) h = of_mention m h
       of_operand (operands.Number n) h = differ (sym h)
       of_operand (operands.Previous m) h = differ (sym h)
+
       of_term : (minus : Bool) (o : Operand) → option_map_or test (plain_terms (record { minus = minus; operand = o } ∷ [])) false ≡ true → pos 0 +ℤ term v r (record { minus = minus; operand = o }) ≡ pos (value (unwrap_or (plain_terms (record { minus = minus; operand = o } ∷ [])) []))
       of_term true o h = differ (sym h)
       of_term false o h = of_operand o h
+
       of : (ts : List Term) → option_map_or test (plain_terms ts) false ≡ true → fold (λ a t. a +ℤ term v r t) (pos 0) ts ≡ pos (value (unwrap_or (plain_terms ts) []))
       of [] h = differ (sym h)
       of (t ∷ []) h = of_term t.minus t.operand h

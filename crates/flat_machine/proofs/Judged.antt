@@ -99,10 +99,10 @@ module _ (name : Name) (decls : List Decl) (top : Name) (ds : are_flat_decls (gl
 
   enables : (failure : Failure) (ns : Numbers) → AreNumbers (sizes xs) ns → fails failure x.members ns ≡ true → EnablesIn s (group_of top x) (IsSuch failure) (world ns)
   enables failure ns small h = record {
-      is_world = is_world_of ns small;
-      met = meets_world ns;
-      count = subst (IsSuch failure) (sym (count_of ns small)) (such_is failure (length (enabled_in ns x.members)) h);
-    }
+    is_world = is_world_of ns small;
+    met = meets_world ns;
+    count = subst (IsSuch failure) (sym (count_of ns small)) (such_is failure (length (enabled_in ns x.members)) h);
+  }
 
   -- a world that fails is one of values that fail
   failing : (failure : Failure) (w : World) → (e : EnablesIn s (group_of top x) (IsSuch failure) w) → fails failure x.members (met w e.is_world e.met).inside.numbers ≡ true
@@ -117,15 +117,15 @@ module _ (name : Name) (decls : List Decl) (top : Name) (ds : are_flat_decls (gl
 
   least : (failure : Failure) (found : Numbers) → IsLeastFrom failure x.members (sizes xs) [] found → IsLeast (EnablesIn s (group_of top x) (IsSuch failure)) (world found)
   least failure found l = record {
-      such = enables failure found (subst (AreNumbers (sizes xs)) (sym l.is) l.are_numbers) (ap (fails failure x.members) l.is ∙ l.failing);
-      least = before;
-    }
+    such = enables failure found (subst (AreNumbers (sizes xs)) (sym l.is) l.are_numbers) (ap (fails failure x.members) l.is ∙ l.failing);
+    least = before;
+  }
     where
       before : (v : World) → EnablesIn s (group_of top x) (IsSuch failure) v → IsBefore v (world found) → ⊥
       before v e h =
           let m = met v e.is_world e.met in
           let less = world_before cs x.child (sizes xs) v m.inside.place m.inside.numbers l.rest m.inside.choice_is m.inside.cells_are
-                (place_least cs x.child m.inside.place m.inside.within m.chosen) m.inside.small l.are_numbers (subst (λ ns. IsBefore v (world ns)) l.is h) in
+          (place_least cs x.child m.inside.place m.inside.within m.chosen) m.inside.small l.are_numbers (subst (λ ns. IsBefore v (world ns)) l.is h) in
           both_ways (fails failure x.members m.inside.numbers) (l.before m.inside.numbers m.inside.small less) (failing failure v e)
 
   sound_is : ((ns : Numbers) → AreNumbers (sizes xs) ns → length (enabled_in ns x.members) ≡ 1) → Sound s (group_of top x)

@@ -32,6 +32,7 @@ seek_is {A} {B} test front (x ∷ xs) (y ∷ ys) e = cases (test x) (again (λ f
         let longer : length (front ++ (y ∷ [])) ≡ length front + 1 = omega (arith, length-append front (y ∷ [])) in
         (λ i. option_map_or (λ p. slice_get (sym (append_assoc front (y ∷ []) ys) i) p) (position_from test (sym longer i) xs) None)
         ∙ later (front ++ (y ∷ [])) (omega (arith, e))
+
     cases : (b : Bool) → option_map_or (λ p. slice_get (front ++ (y ∷ ys)) p) (position_from test (length front + 1) xs) None ≡ seek test xs ys → option_map_or (λ p. slice_get (front ++ (y ∷ ys)) p) (cond b (Some (length front)) (position_from test (length front + 1) xs)) None ≡ cond b (Some y) (seek test xs ys)
     cases true h = slice_get_at front y ys
     cases false h = h

@@ -33,8 +33,8 @@ module _ {A B C : Type 0} (f : A × B → List C) (xs : List A) (ys : List B) (i
   beside_put x put all within is so_far =
       append_assoc put (beside f x (slice_get ys i)) (flat_map f (zip (drop (i + 1) xs) (drop (i + 1) ys)))
       ∙ (sym (at_drop_more (λ zs. put ++ flat_map f (zip zs (drop i ys))) xs i x within
-          ∙ ((λ j. put ++ flat_map f (zip (sym is j ∷ drop (i + 1) xs) (drop i ys)))
-          ∙ ((λ j. put ++ zip_drop f x (drop (i + 1) xs) ys i j) ∙ (λ j. put ++ (beside f x (slice_get ys i) ++ flat_map f (zip (drop (i + 1) xs) (drop (sym (add-one i) j) ys)))))))
+      ∙ ((λ j. put ++ flat_map f (zip (sym is j ∷ drop (i + 1) xs) (drop i ys)))
+      ∙ ((λ j. put ++ zip_drop f x (drop (i + 1) xs) ys i j) ∙ (λ j. put ++ (beside f x (slice_get ys i) ++ flat_map f (zip (drop (i + 1) xs) (drop (sym (add-one i) j) ys)))))))
       ∙ so_far)
 
   pub all_beside : (put all : List C) → length xs ≤ i → put ++ flat_map f (zip (drop i xs) (drop i ys)) ≡ all → put ≡ all
@@ -53,7 +53,7 @@ module _ {A B : Type 0} (f : A → List B) (test : A → Bool) (xs : List A) (i 
   kept_put x put all within is so_far =
       append_assoc put (if test x then f x else []) (flat_map f (filter test (drop (i + 1) xs)))
       ∙ (sym (at_drop_more (λ ys. put ++ flat_map f (filter test ys)) xs i x within
-          ∙ ((λ j. put ++ flat_map f (filter test (sym is j ∷ drop (i + 1) xs))) ∙ (λ j. put ++ kept_drop f test x (drop (i + 1) xs) j)))
+      ∙ ((λ j. put ++ flat_map f (filter test (sym is j ∷ drop (i + 1) xs))) ∙ (λ j. put ++ kept_drop f test x (drop (i + 1) xs) j)))
       ∙ so_far)
 
   pub all_kept : (put all : List B) → length xs ≤ i → put ++ flat_map f (filter test (drop i xs)) ≡ all → put ≡ all

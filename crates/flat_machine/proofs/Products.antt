@@ -10,6 +10,7 @@ times most a n = elim (cases_lt most a) [ inl over ↦ past n over | inr under �
   where
     kept : a ≤ most → min a most ≡ a
     kept h = omega arith
+
     past : (n : ℕ) → most < a → min (min a most * n) most ≡ min (a * n) most
     past zero h = grind arith
     past (suc k) h =

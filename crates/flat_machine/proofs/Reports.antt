@@ -121,8 +121,8 @@ module _ (name : Name) (decls : List Decl) (top : Name) (ds : are_flat_decls (gl
   pub are_groups : Each (IsGroup g xs b) (flat_groups s)
   are_groups =
       each_pieces (λ (c : StateDecl). has_child cs c.name ≡ true) (IsGroup g xs b) (groups_at g xs ts decls)
-        (λ c h. each_pieces (λ (d : Decl). Unit {0}) (IsGroup g xs b) (groups_on g xs ts c.name) (λ d u. are_groups_on c.name h d) decls (each_of (λ (d : Decl). Unit {0}) (λ d. tt) decls))
-        cs (each_has cs)
+      (λ c h. each_pieces (λ (d : Decl). Unit {0}) (IsGroup g xs b) (groups_on g xs ts c.name) (λ d u. are_groups_on c.name h d) decls (each_of (λ (d : Decl). Unit {0}) (λ d. tt) decls))
+      cs (each_has cs)
 
   -- VERDICTS
 

@@ -68,15 +68,15 @@ no_components top (c ∷ cs) = no_components top cs
 -- the instance of a transition with its place
 abbrev pub lead : Name → ℕ × Transition → TransitionInstance
 lead top t = record {
-    component = top_path top;
-    ordinal = t.0;
-    source = child_at top t.1.source;
-    target = option_map (target_path (top_path top)) t.1.target;
-    event = at t.1.trigger.name 0;
-    this = 0;
-    guard = t.1.guard;
-    raises = [];
-  }
+  component = top_path top;
+  ordinal = t.0;
+  source = child_at top t.1.source;
+  target = option_map (target_path (top_path top)) t.1.target;
+  event = at t.1.trigger.name 0;
+  this = 0;
+  guard = t.1.guard;
+  raises = [];
+}
 
 lead_is : (g : Globals) (top first : Name) (names : List Name) (bs : List Bus) (ts : List Transition) (n : ℕ) (source : Name) (target : Option (List Name)) (event : Name) (index : Option Index) (guard : Guard) (raises : List Mention) →
     is_flat_transition g (record { source = source; target = target; trigger = record { name = event; index = index }; guard = guard; raises = raises }) ≡ true →

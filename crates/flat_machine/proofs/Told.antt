@@ -47,7 +47,7 @@ value_text_is (v ∷ vs) n h = refl
 cell_line_is : (c : InputCell) (x : FlatInput) (n : ℕ) → IsCell c x → cell_line (c, pos n) ≡ flat_cell_line (x, n)
 cell_line_is c x n is =
     (λ i. if int_eq (pos n) (is.numbers_is i).low then [] else
-        text_line (codes "  " ++ ((if is.previous_is i then codes "previous " ++ instance_text (is.input_is i) else instance_text (is.input_is i)) ++ (codes " = " ++ (value_text (is.numbers_is i).names (pos n) ++ codes " | T")))))
+    text_line (codes "  " ++ ((if is.previous_is i then codes "previous " ++ instance_text (is.input_is i) else instance_text (is.input_is i)) ++ (codes " = " ++ (value_text (is.numbers_is i).names (pos n) ++ codes " | T")))))
     ∙ (λ i. if equal n 0 i then [] else text_line (codes "  " ++ (x.name ++ (codes " = " ++ (value_text_is x.values n is.has_values i ++ codes " | T")))))
 
 cells_text : (cs : List InputCell) (xs : List FlatInput) (ns : Numbers) → Beside IsCell cs xs → flat_map cell_line (zip cs (map pos ns)) ≡ flat_map flat_cell_line (zip xs ns)
@@ -68,14 +68,15 @@ action_is top child source target e h t es et = (λ i. of (es i) (et i)) ∙ by 
   where
     of : Name → Option (List Name) → Text
     of name target = elim (option_map (target_path (top_path top)) target) [
-        | None ↦ codes " stay " ++ name
-        | Some path ↦ codes " move " ++ (name ++ (codes " -> " ++ path_text (drop 1 path)))
-      ]
+      | None ↦ codes " stay " ++ name
+      | Some path ↦ codes " move " ++ (name ++ (codes " -> " ++ path_text (drop 1 path)))
+    ]
+
     by : (target : Option (List Name)) → is_flat_target target ≡ true →
-      elim (option_map (target_path (top_path top)) target) [
-        | None ↦ codes " stay " ++ source
-        | Some path ↦ codes " move " ++ (source ++ (codes " -> " ++ path_text (drop 1 path)))
-      ] ≡ flat_action child (target_of target)
+        elim (option_map (target_path (top_path top)) target) [
+          | None ↦ codes " stay " ++ source
+          | Some path ↦ codes " move " ++ (source ++ (codes " -> " ++ path_text (drop 1 path)))
+        ] ≡ flat_action child (target_of target)
     by None h = ap (λ n. codes " stay " ++ n) e
     by (Some []) h = cc
     by (Some (name ∷ [])) h = ap (λ n. codes " move " ++ (n ++ (codes " -> " ++ name))) e
@@ -137,8 +138,8 @@ module _ (name : Name) (decls : List Decl) (top : Name) (ds : are_flat_decls (gl
       each : Each (λ (t : ℕ × Transition). line_of (transition (lead top t)) ≡ member_line top x.child (member_of g xs t)) (enabled_kept name decls top ds b flat ns x.child x.event)
       each =
           each_more (λ (t : ℕ × Transition). IsFlatMember name decls top ds b flat x.child x.event t × (guard_truth ns (rows_of g xs t.1.guard) ≡ true)) (λ (t : ℕ × Transition). line_of (transition (lead top t)) ≡ member_line top x.child (member_of g xs t))
-            (λ t h. member_is t h.0) (enabled_kept name decls top ds b flat ns x.child x.event)
-            (each_kept (IsFlatMember name decls top ds b flat x.child x.event) (λ (t : ℕ × Transition). guard_truth ns (rows_of g xs t.1.guard)) (kept_from x.child x.event 1 (transitions_of b)) (kept_are_flat name decls top ds b flat x.child x.event))
+          (λ t h. member_is t h.0) (enabled_kept name decls top ds b flat ns x.child x.event)
+          (each_kept (IsFlatMember name decls top ds b flat x.child x.event) (λ (t : ℕ × Transition). guard_truth ns (rows_of g xs t.1.guard)) (kept_from x.child x.event 1 (transitions_of b)) (kept_are_flat name decls top ds b flat x.child x.event))
 
   pub finding_is : (v : Verdict) → IsFound (sizes xs) x.members v → finding s (group_of top x, told_of cs x.child v) ≡ finding_text top xs cs x v
   finding_is verdicts.Sound h = refl

@@ -104,7 +104,7 @@ module _ (name : Name) (decls : List Decl) (top : Name) (ds : are_flat_decls (gl
       (λ i. flat_map line (cond (raised_in g event decls ds i) (at event 0 ∷ filter (is_external s) (flat_map event_of es)) (filter (is_external s) (flat_map event_of es)))) ∙ by (is_raised decls event) (chains_in es)
     where
       by : (r : Bool) → flat_map line (filter (is_external s) (flat_map event_of es)) ≡ flat_map (chain_of decls) es →
-        flat_map line (cond r (at event 0 ∷ filter (is_external s) (flat_map event_of es)) (filter (is_external s) (flat_map event_of es))) ≡ (if r then chain_text event else []) ++ flat_map (chain_of decls) es
+          flat_map line (cond r (at event 0 ∷ filter (is_external s) (flat_map event_of es)) (filter (is_external s) (flat_map event_of es))) ≡ (if r then chain_text event else []) ++ flat_map (chain_of decls) es
       by true e = λ i. chain_line_is event i ++ e i
       by false e = e
   chains_in (decl.Enumeration _ _ ∷ es) = chains_in es
@@ -161,23 +161,23 @@ module _ (name : Name) (decls : List Decl) (top : Name) (ds : are_flat_decls (gl
 
   shown : (vs : List Verdict) → AllZip (IsFoundOf (sizes xs)) (flat_groups s) vs → Shown (flat_groups s) vs
   shown vs h = elim (component_or_none b flat) [
-      | inl none ↦ shown_none (flat_groups s) vs none h
-      | inr comp ↦ record {
-          right = right_verdicts name decls top ds b flat comp (flat_groups s) vs (are_groups name decls top ds b flat) h;
-          findings = right_findings name decls top ds b flat comp (flat_groups s) vs (are_groups name decls top ds b flat) h;
-          sound = all_sound name decls top ds b flat comp (flat_groups s) vs (are_groups name decls top ds b flat) h;
-          found = all_found_so name decls top ds b flat comp (flat_groups s) vs (are_groups name decls top ds b flat) h;
-        }
-    ]
+    | inl none ↦ shown_none (flat_groups s) vs none h
+    | inr comp ↦ record {
+      right = right_verdicts name decls top ds b flat comp (flat_groups s) vs (are_groups name decls top ds b flat) h;
+      findings = right_findings name decls top ds b flat comp (flat_groups s) vs (are_groups name decls top ds b flat) h;
+      sound = all_sound name decls top ds b flat comp (flat_groups s) vs (are_groups name decls top ds b flat) h;
+      found = all_found_so name decls top ds b flat comp (flat_groups s) vs (are_groups name decls top ds b flat) h;
+    }
+  ]
 
   module _ (vs : List Verdict) (h : AllZip (IsFoundOf (sizes xs)) (flat_groups s) vs) where
     pub are_right : AreRight s (answers s vs)
     are_right = record {
-        lengths = lengths_right name decls top b flat;
-        clashes = clashes_right name decls top b flat;
-        loops = loops_right name decls top b flat;
-        verdicts = subst (λ gs. AllZip (IsVerdict s) gs (answers s vs).verdicts) (sym (groups_are name decls top ds b flat)) (shown vs h).right;
-      }
+      lengths = lengths_right name decls top b flat;
+      clashes = clashes_right name decls top b flat;
+      loops = loops_right name decls top b flat;
+      verdicts = subst (λ gs. AllZip (IsVerdict s) gs (answers s vs).verdicts) (sym (groups_are name decls top ds b flat)) (shown vs h).right;
+    }
 
     count_is : refusals s (answers s vs) ≡ length (filter is_found vs)
     count_is =
@@ -198,11 +198,14 @@ module _ (name : Name) (decls : List Decl) (top : Name) (ds : are_flat_decls (gl
         ∙ sym (λ i. text_line (codes "specification " ++ name) ++ (text_line (codes "groups " ++ decimal (length_is i)) ++ (chains_are i ++ (flat_map loop_line (no_loops (events s) i) ++ (clashes_are i ++ (findings_are i ++ last_line (count_is i)))))))
 
     pub certifies : IsTrue (length (filter is_found vs) == 0) ↔ Certified s
-    certifies = (λ e. record {
+    certifies = (
+      λ e. record {
         sound = subst (Each (Sound s)) (sym (groups_are name decls top ds b flat)) ((shown vs h).sound (eqb-true (length (filter is_found vs)) 0 e));
         no_loop = no_loop name decls top b flat;
         no_clash = no_clash name decls top b flat;
-      }, λ c. eq-eqb (length (filter is_found vs)) 0 ((shown vs h).found (subst (Each (Sound s)) (groups_are name decls top ds b flat) c.sound)))
+      },
+      λ c. eq-eqb (length (filter is_found vs)) 0 ((shown vs h).found (subst (Each (Sound s)) (groups_are name decls top ds b flat) c.sound)),
+    )
 
 -- A flat specification and what is found of its groups.
 module _ (s : Spec) (h : is_flat s ≡ true) (vs : List Verdict) (found : AreFound s vs) where

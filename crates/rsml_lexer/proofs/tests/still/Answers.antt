@@ -19,9 +19,9 @@ named_still : (name top : Name) (decls : List Decl) → name ≡ codes "Still" �
     WellFormed (record { name = name; decls = decls; top = top; body = Basic })
 named_still name top decls n d t =
     subst (λ (x : Name). WellFormed (record { name = x; decls = decls; top = top; body = Basic })) (sym n)
-      (subst (λ (x : List Decl). WellFormed (record { name = codes "Still"; decls = x; top = top; body = Basic })) (sym d)
-        (subst (λ (x : Name). WellFormed (record { name = codes "Still"; decls = []; top = x; body = Basic })) (sym t)
-          (record { tokens = (refl, (still_free, (refl, (refl, (still_free, (refl, refl)))))); items = refl })))
+    (subst (λ (x : List Decl). WellFormed (record { name = codes "Still"; decls = x; top = top; body = Basic })) (sym d)
+    (subst (λ (x : Name). WellFormed (record { name = codes "Still"; decls = []; top = x; body = Basic })) (sym t)
+    (record { tokens = (refl, (still_free, (refl, (refl, (still_free, (refl, refl)))))); items = refl })))
 
 pub returns : goal.returns
 returns c = named_still c.in_ok-new.field-0 c.in_ok-new-2.field-0 c.new-2.result c.in_ok-new.ensures c.new-2.ensures c.in_ok-new-2.ensures
