@@ -17,7 +17,7 @@ use Rattle.rsml_parser.specs.declared.error.ParseError.TheVariants as errors
 use Rattle.rsml_parser.proofs.BodyLists.{good_body}
 use Rattle.rsml_parser.proofs.Deeper.{deeper}
 use Rattle.rsml_parser.proofs.Forms.{Fit}
-use Rattle.rsml_parser.proofs.Outcomes.{same_ok, not_both, cancel}
+use Rattle.rsml_parser.proofs.Outcomes.{not_both, cancel}
 use Rattle.rsml_parser.proofs.PlaceLemmas.{within, one_syntax_place, one_depth_place, no_depth_place, no_syntax_place_of, no_depth_place_of}
 use Rattle.rsml_parser.proofs.Spelling.{both, halves}
 use Rattle.rsml_parser.proofs.SpecificationForms.{good_spec, form_whole, reads_all, whole_again}
@@ -36,7 +36,7 @@ well_formed most s good fit =
     let b = halves (body_has_items s.body) (nat_le (depth_of s.body) most) is.1 in
     (record { tokens = fit; items = both (list_all declaration_has_items s.decls) (body_has_items s.body) is.0 b.0 }, leb-true (depth_of s.body) most b.1)
 
-good_of : (most : ℕ) (s : Spec) → WellFormed s → nests s ≤ most → IsTrue (good_spec most s)
+pub good_of : (most : ℕ) (s : Spec) → WellFormed s → nests s ≤ most → IsTrue (good_spec most s)
 good_of most s is le =
     let items = halves (list_all declaration_has_items s.decls) (body_has_items s.body) is.items in
     both (list_all declaration_has_items s.decls) (good_body most s.body) items.0 (both (body_has_items s.body) (nat_le (depth_of s.body) most) items.1 (le-leb (depth_of s.body) most le))
@@ -152,11 +152,3 @@ module _ (ts : Tokens) (fit : Fit ts) (result : Result Spec ParseError) (is : An
       read (Ok p) e = absurd (no_depth_place_of ts p.0 (reads_tokens ts p.0 p.1 fit e) place depth)
       read (Err (false, left)) e = absurd ((syntax_fault ts left fit e).1 place depth)
       read (Err (true, left)) e = ap (λ (n : ℕ). Err (errors.TooDeep n)) (one_depth_place ts (place_of ts left) place (depth_place ts left fit e) depth)
-
--- No specification has a second reading.
-pub tokens_tell : (s t : Spec) → WellFormed s → WellFormed t → tokens_of s ≡ tokens_of t → s ≡ t
-tokens_tell s t one two h =
-    let more = nests s + nests t in
-    let first = whole_again more s (good_of (suc more) s one (omega arith)) in
-    let second = whole_again more t (good_of (suc more) t two (omega arith)) in
-    (same_ok s t [] [] (sym first ∙ ap (whole more) h ∙ second)).0

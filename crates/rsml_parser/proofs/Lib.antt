@@ -20,3 +20,4 @@ pub mod SpecificationForms
 pub mod PlaceLemmas
 pub mod AnswerLemmas
 pub mod CodeLemmas
+pub mod ReadingLemmas

@@ -17,5 +17,5 @@ mod tables;
 mod tests;
 
 pub use error::ParseError;
-pub use laws::grammar_is_unambiguous;
+pub use laws::{at_most_one_specification, grammar_is_unambiguous, layout_reads_again};
 pub use specification::parse;
