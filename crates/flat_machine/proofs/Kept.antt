@@ -12,7 +12,7 @@ use Rattle.rsml_syntax.specs.Globals.{Globals}
 use Rattle.rsml_meaning.specs.Words.{Instance, Path, at, same_instance, is_prefix, is_proper_prefix, same_path, numbered, numbered_from, Each}
 use Rattle.rsml_meaning.specs.Transitions.{TransitionInstance, is_on, is_from}
 use Rattle.rsml_meaning.specs.Groups.{Group, state}
-use Rattle.flat_machine.specs.Flat.{is_none_of, is_flat_transition, are_flat_transitions}
+use Rattle.flat_machine.specs.Flat.{is_nil, is_flat_transition, are_flat_transitions}
 use Rattle.flat_machine.specs.Machine.{FlatInput, FlatMember, FlatGroup, new_member, is_member, members_from, new_group, group_if, group_at, groups_on, groups_at, groups_in}
 use Rattle.flat_machine.proofs.Basics.{differ, same_self, same_is, and_true, and_false, filter-map, filter_same, filter_none, any_none}
 use Rattle.flat_machine.proofs.Declared.{event_of}
@@ -99,11 +99,11 @@ line_is top child event n ts =
 
 -- some transition is from the child on the event where there are members
 any_from : (g : Globals) (xs : List FlatInput) (top child event : Name) (n : ℕ) (ts : List Transition) →
-    list_any (is_from (child_at top child) (at event 0)) (map (lead top) (numbered_from n ts)) ≡ not (is_none_of (members_from g xs child event n ts))
+    list_any (is_from (child_at top child) (at event 0)) (map (lead top) (numbered_from n ts)) ≡ not (is_nil (members_from g xs child event n ts))
 any_from g xs top child event n [] = refl
 any_from g xs top child event n (t ∷ ts) = (λ i. from_is top child event (n, t) i || any_from g xs top child event (suc n) ts i) ∙ cases (is_member child event t)
   where
-    cases : (b : Bool) → (b || not (is_none_of (members_from g xs child event (suc n) ts))) ≡ not (is_none_of (if b then new_member g xs n t ∷ members_from g xs child event (suc n) ts else members_from g xs child event (suc n) ts))
+    cases : (b : Bool) → (b || not (is_nil (members_from g xs child event (suc n) ts))) ≡ not (is_nil (if b then new_member g xs n t ∷ members_from g xs child event (suc n) ts else members_from g xs child event (suc n) ts))
     cases true = refl
     cases false = refl
 
@@ -118,7 +118,7 @@ module _ (g : Globals) (xs : List FlatInput) (top : Name) (ts : List Transition)
   abbrev has_member : Instance → Bool
   has_member e = list_any (is_from path e) (map (lead top) (numbered ts))
 
-  one_event : (event : Name) (rest : List Instance) (groups : List FlatGroup) (b : Bool) (ms : List FlatMember) → b ≡ not (is_none_of ms) → map (state path) rest ≡ map (group_of top) groups →
+  one_event : (event : Name) (rest : List Instance) (groups : List FlatGroup) (b : Bool) (ms : List FlatMember) → b ≡ not (is_nil ms) → map (state path) rest ≡ map (group_of top) groups →
       map (state path) (cond b (at event 0 ∷ rest) rest) ≡ map (group_of top) (group_if child event ms ++ groups)
   one_event event rest groups b [] e h = ap (λ c. map (state path) (cond c (at event 0 ∷ rest) rest)) e ∙ h
   one_event event rest groups b (m ∷ ms) e h = ap (λ c. map (state path) (cond c (at event 0 ∷ rest) rest)) e ∙ ap (λ r. state path (at event 0) ∷ r) h

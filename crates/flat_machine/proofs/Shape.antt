@@ -24,7 +24,7 @@ use Rattle.rsml_meaning.specs.Transitions.{TransitionInstance, innermost, source
 use Rattle.rsml_meaning.specs.Cells.{own_cells, previous_cells, cells, as_previous}
 use Rattle.rsml_meaning.specs.Interfaces.{sends, functions}
 use Rattle.rsml_meaning.specs.Truth.{view, bare, within, instance}
-use Rattle.flat_machine.specs.Flat.{is_flat_child, are_flat_children, is_flat_transition, are_flat_transitions, is_flat_target, is_flat_guard, is_flat_body, are_flat_decls, is_none_of, is_all}
+use Rattle.flat_machine.specs.Flat.{is_flat_child, are_flat_children, is_flat_transition, are_flat_transitions, is_flat_target, is_flat_guard, is_flat_body, are_flat_decls, is_nil, is_all}
 use Rattle.flat_machine.proofs.Basics.{differ, filter_none, map_same, each_from_all}
 use Rattle.flat_machine.proofs.Declared.{event_of, events_are, no_sends, no_functions, view_is}
 use Rattle.flat_machine.proofs.Previous.{no_previous}

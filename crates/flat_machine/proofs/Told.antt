@@ -22,7 +22,7 @@ use Rattle.rsml_meaning.specs.Groups.{Group, Member, transition}
 use Rattle.rsml_meaning.specs.Transitions.{TransitionInstance, target_path}
 use Rattle.std.specs.Option.{option_map}
 use Rattle.rsml_meaning.specs.Report.{choice_line, cell_line, world_text, member_label, enabled_text, confirmed, finding, group_text}
-use Rattle.flat_machine.specs.Flat.{is_none_of, is_flat_guard, is_flat_body, are_flat_decls, is_flat_target, is_flat_transition}
+use Rattle.flat_machine.specs.Flat.{is_nil, is_flat_guard, is_flat_body, are_flat_decls, is_flat_target, is_flat_transition}
 use Rattle.flat_machine.specs.Machine.{target_of, Numbers, FlatInput, FlatMember, FlatGroup, inputs_in, rows_of, guard_truth, members_from, enabled_in}
 use Rattle.flat_machine.specs.Search.{sizes, AreNumbers, IsFound}
 use Rattle.flat_machine.specs.FlatTexts.{child_text, begins, flat_choice_line, flat_cell_line, value_of, flat_world_text, flat_action, flat_label, member_line, members_text, flat_enabled_text, finding_text}
@@ -40,7 +40,7 @@ use Rattle.flat_machine.proofs.Judged.{IsGroup}
 
 -- CELLS
 
-value_text_is : (vs : List Name) (n : ℕ) → is_none_of vs ≡ false → value_text vs (pos n) ≡ value_of vs n
+value_text_is : (vs : List Name) (n : ℕ) → is_nil vs ≡ false → value_text vs (pos n) ≡ value_of vs n
 value_text_is [] n h = differ h
 value_text_is (v ∷ vs) n h = refl
 
@@ -122,7 +122,7 @@ module _ (name : Name) (decls : List Decl) (top : Name) (ds : are_flat_decls (gl
   member_is t h =
       ap (λ l. text_line (codes "  enabled " ++ l))
       (label_is top x.child g xs t (source_is name decls top ds b flat x.child x.event t h)
-      (first_so (is_flat_target t.1.target) (is_none_of t.1.raises && is_flat_guard g t.1.guard) (second_so (is_none t.1.trigger.index) (is_flat_target t.1.target && (is_none_of t.1.raises && is_flat_guard g t.1.guard)) h.0)))
+      (first_so (is_flat_target t.1.target) (is_nil t.1.raises && is_flat_guard g t.1.guard) (second_so (is_none t.1.trigger.index) (is_flat_target t.1.target && (is_nil t.1.raises && is_flat_guard g t.1.guard)) h.0)))
 
   pub enabled_is : (ns : Numbers) → AreNumbers (sizes xs) ns → enabled_text s (group_of top x) (world_of cs x.child ns) ≡ flat_enabled_text top x ns
   enabled_is ns small =
