@@ -1,23 +1,18 @@
 -- What the declarations of a flat specification make: events and cells, and no sends, functions or definitions.
-use Rattle.std.proofs.Common.{◌≡◌, ℕ, suc, ◌+◌, ◌-◌, ◌<◌, ◌≤◌, Bool, true, false, cond, ◌&&◌, not, List, [], ◌∷◌, ◌++◌, map, length, flat_map, filter, fold, Option, Some, None, is_none, refl, sym, ap, ◌∙◌, subst, arith, append-nil}
-use Rattle.std.specs.Prelude.{ℤ, pos, ◌-ℤ◌}
+use Rattle.std.proofs.Common.{◌≡◌, ℕ, suc, ◌-◌, Bool, true, false, not, List, [], ◌∷◌, ◌++◌, length, flat_map, fold, Option, Some, None, refl, sym, ap, ◌∙◌, arith}
+use Rattle.std.specs.Prelude.{pos, ◌-ℤ◌}
 use Rattle.std.proofs.lemmas.Int.{ints}
-use Rattle.std.specs.List.{list_all}
 use Rattle.std.specs.Option.{option_map_or}
 use Rattle.std.specs.Cmp.{first_so, second_so}
-use Rattle.rsml_syntax.specs.declared.syntax.Spec.{Spec}
 use Rattle.rsml_syntax.specs.declared.syntax.Decl.{Decl}
 use Rattle.rsml_syntax.specs.declared.syntax.Decl.TheVariants as decl
-use Rattle.rsml_syntax.specs.declared.syntax.Amount.{Amount}
-use Rattle.rsml_syntax.specs.declared.syntax.Initial.{Initial}
-use Rattle.rsml_syntax.specs.declared.world.World.{World}
 use Rattle.rsml_syntax.specs.Names.{Name}
-use Rattle.rsml_syntax.specs.Globals.{Globals, globals, Known, meaning, values_of}
-use Rattle.rsml_meaning.specs.Words.{Instance, at, Each}
+use Rattle.rsml_syntax.specs.Globals.{Globals, Known, meaning, values_of}
+use Rattle.rsml_meaning.specs.Words.{Instance, at}
 use Rattle.rsml_syntax.specs.Thresholds.{type_ends}
-use Rattle.rsml_meaning.specs.Instances.{events_of, instances}
-use Rattle.rsml_meaning.specs.Cells.{InputType, new_type, type_named, no_type, InputCell, new_cell, initial_number, cells_of}
-use Rattle.rsml_meaning.specs.Interfaces.{sends_of, functions_of, FunctionInstance}
+use Rattle.rsml_meaning.specs.Instances.{events_of}
+use Rattle.rsml_meaning.specs.Cells.{new_type, type_named, no_type, InputCell, cells_of}
+use Rattle.rsml_meaning.specs.Interfaces.{sends_of, functions_of}
 use Rattle.rsml_meaning.specs.Truth.{View, learn}
 use Rattle.flat_machine.specs.Flat.{is_nil, enumeration, is_flat_decl, are_flat_decls}
 use Rattle.flat_machine.specs.Machine.{FlatInput, inputs_of, inputs_in}

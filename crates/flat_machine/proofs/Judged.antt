@@ -1,33 +1,30 @@
 -- What is found of a group of a flat specification is right.
-use Rattle.std.proofs.Common.{◌≡◌, ℕ, suc, ◌<◌, ◌≤◌, Bool, true, false, ◌&&◌, List, [], ◌∷◌, ◌++◌, map, length, refl, sym, ap, ◌∙◌, subst, arith}
-use Rattle.std.specs.Prelude.{pos, slice_index_or, IsTrue, ◌==◌, nat_le}
+use Rattle.std.proofs.Common.{◌≡◌, ℕ, ◌<◌, ◌≤◌, true, ◌&&◌, List, [], ◌∷◌, map, length, refl, sym, ap, ◌∙◌, subst}
+use Rattle.std.specs.Prelude.{pos, slice_index_or, IsTrue}
 use Rattle.std.specs.Cmp.Lexicographic.{pointwise}
 use Rattle.std.proofs.lemmas.Bool.{lt-ltb, leb-true, le-leb, eqb-true, eq-eqb, both_ways}
 use Rattle.rsml_syntax.specs.declared.syntax.Decl.{Decl}
 use Rattle.rsml_syntax.specs.declared.syntax.StateDecl.{StateDecl}
 use Rattle.rsml_syntax.specs.declared.syntax.Body.{Body}
-use Rattle.rsml_syntax.specs.declared.syntax.Transition.{Transition}
 use Rattle.rsml_syntax.specs.declared.syntax.Spec.{Spec}
 use Rattle.rsml_syntax.specs.declared.world.World.{World}
 use Rattle.rsml_syntax.specs.Names.{Name, same}
 use Rattle.rsml_syntax.specs.Globals.{Globals, globals}
 use Rattle.rsml_syntax.specs.Parts.{children_of, transitions_of}
-use Rattle.rsml_meaning.specs.Words.{at}
-use Rattle.rsml_meaning.specs.Instances.{components}
-use Rattle.rsml_meaning.specs.Worlds.{IsWorld, IsBefore, is_choice, is_world}
-use Rattle.rsml_meaning.specs.Cells.{cells, own_cells, is_of}
+use Rattle.rsml_meaning.specs.Worlds.{IsWorld, IsBefore, is_choice}
+use Rattle.rsml_meaning.specs.Cells.{own_cells, is_of}
 use Rattle.rsml_meaning.specs.Truth.{view}
-use Rattle.rsml_meaning.specs.Groups.{Group, meets, enabled_count, Sound}
-use Rattle.rsml_meaning.specs.Findings.{EnablesIn, EnablesNone, EnablesTwo, IsLeast, IsVerdict}
+use Rattle.rsml_meaning.specs.Groups.{meets, enabled_count, Sound}
+use Rattle.rsml_meaning.specs.Findings.{EnablesIn, IsLeast, IsVerdict}
 use Rattle.flat_machine.specs.Flat.{is_flat_body, are_flat_decls}
-use Rattle.flat_machine.specs.Machine.{Numbers, FlatInput, FlatMember, FlatGroup, inputs_in, members_from, enabled_in}
-use Rattle.flat_machine.specs.Search.{sizes, AreNumbers, AreBefore, is_failure, fails, Passes, IsLeastFrom, IsFound}
+use Rattle.flat_machine.specs.Machine.{Numbers, FlatInput, FlatGroup, inputs_in, members_from, enabled_in}
+use Rattle.flat_machine.specs.Search.{sizes, AreNumbers, is_failure, fails, Passes, IsLeastFrom, IsFound}
 use Rattle.flat_machine.specs.Answered.{child_place, world_of, told_of}
 use Rattle.flat_machine.specs.declared.search.Failure.{Failure}
 use Rattle.flat_machine.specs.declared.search.Failure.TheVariants.{Missing, Double}
 use Rattle.flat_machine.specs.declared.verdict.Verdict.{Verdict}
 use Rattle.flat_machine.specs.declared.verdict.Verdict.TheVariants as verdicts
-use Rattle.flat_machine.proofs.Declared.{IsCell, Beside, cells_are}
+use Rattle.flat_machine.proofs.Declared.{cells_are}
 use Rattle.flat_machine.proofs.Shape.{spec_of, cells_are_own}
 use Rattle.flat_machine.proofs.Kept.{group_of}
 use Rattle.flat_machine.proofs.Numbers.{cells_of_numbers}
@@ -99,10 +96,10 @@ module _ (name : Name) (decls : List Decl) (top : Name) (ds : are_flat_decls (gl
 
   enables : (failure : Failure) (ns : Numbers) → AreNumbers (sizes xs) ns → fails failure x.members ns ≡ true → EnablesIn s (group_of top x) (IsSuch failure) (world ns)
   enables failure ns small h = record {
-      is_world = is_world_of ns small;
-      met = meets_world ns;
-      count = subst (IsSuch failure) (sym (count_of ns small)) (such_is failure (length (enabled_in ns x.members)) h);
-    }
+    is_world = is_world_of ns small;
+    met = meets_world ns;
+    count = subst (IsSuch failure) (sym (count_of ns small)) (such_is failure (length (enabled_in ns x.members)) h);
+  }
 
   -- a world that fails is one of values that fail
   failing : (failure : Failure) (w : World) → (e : EnablesIn s (group_of top x) (IsSuch failure) w) → fails failure x.members (met w e.is_world e.met).inside.numbers ≡ true
@@ -117,15 +114,15 @@ module _ (name : Name) (decls : List Decl) (top : Name) (ds : are_flat_decls (gl
 
   least : (failure : Failure) (found : Numbers) → IsLeastFrom failure x.members (sizes xs) [] found → IsLeast (EnablesIn s (group_of top x) (IsSuch failure)) (world found)
   least failure found l = record {
-      such = enables failure found (subst (AreNumbers (sizes xs)) (sym l.is) l.are_numbers) (ap (fails failure x.members) l.is ∙ l.failing);
-      least = before;
-    }
+    such = enables failure found (subst (AreNumbers (sizes xs)) (sym l.is) l.are_numbers) (ap (fails failure x.members) l.is ∙ l.failing);
+    least = before;
+  }
     where
       before : (v : World) → EnablesIn s (group_of top x) (IsSuch failure) v → IsBefore v (world found) → ⊥
       before v e h =
           let m = met v e.is_world e.met in
           let less = world_before cs x.child (sizes xs) v m.inside.place m.inside.numbers l.rest m.inside.choice_is m.inside.cells_are
-                (place_least cs x.child m.inside.place m.inside.within m.chosen) m.inside.small l.are_numbers (subst (λ ns. IsBefore v (world ns)) l.is h) in
+          (place_least cs x.child m.inside.place m.inside.within m.chosen) m.inside.small l.are_numbers (subst (λ ns. IsBefore v (world ns)) l.is h) in
           both_ways (fails failure x.members m.inside.numbers) (l.before m.inside.numbers m.inside.small less) (failing failure v e)
 
   sound_is : ((ns : Numbers) → AreNumbers (sizes xs) ns → length (enabled_in ns x.members) ≡ 1) → Sound s (group_of top x)

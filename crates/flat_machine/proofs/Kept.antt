@@ -1,20 +1,18 @@
 -- The transitions of a group, and its members.
-use Rattle.std.proofs.Common.{◌≡◌, ℕ, suc, Bool, true, false, cond, ◌&&◌, ◌||◌, not, nat_eq, nat_lt, List, [], ◌∷◌, ◌++◌, map, length, flat_map, filter, refl, sym, ap, ◌∙◌}
+use Rattle.std.proofs.Common.{◌≡◌, ℕ, suc, Bool, true, false, cond, ◌&&◌, ◌||◌, not, List, [], ◌∷◌, ◌++◌, map, flat_map, filter, refl, sym, ap, ◌∙◌}
 use Rattle.std.specs.Prelude.{if◌then◌else◌}
-use Rattle.std.specs.List.{list_any, list_all}
-use Rattle.std.specs.Cmp.{first_so, second_so}
+use Rattle.std.specs.List.{list_any}
 use Rattle.rsml_syntax.specs.declared.syntax.Decl.{Decl}
 use Rattle.rsml_syntax.specs.declared.syntax.Decl.TheVariants as decl
 use Rattle.rsml_syntax.specs.declared.syntax.Transition.{Transition}
-use Rattle.rsml_syntax.specs.declared.syntax.StateDecl.{StateDecl}
 use Rattle.rsml_syntax.specs.Names.{Name, same}
 use Rattle.rsml_syntax.specs.Globals.{Globals}
-use Rattle.rsml_meaning.specs.Words.{Instance, Path, at, same_instance, is_prefix, is_proper_prefix, same_path, numbered, numbered_from, Each}
-use Rattle.rsml_meaning.specs.Transitions.{TransitionInstance, is_on, is_from}
+use Rattle.rsml_meaning.specs.Words.{Instance, Path, at, same_instance, is_prefix, same_path, numbered, numbered_from, Each}
+use Rattle.rsml_meaning.specs.Transitions.{is_on, is_from}
 use Rattle.rsml_meaning.specs.Groups.{Group, state}
-use Rattle.flat_machine.specs.Flat.{is_nil, is_flat_transition, are_flat_transitions}
-use Rattle.flat_machine.specs.Machine.{FlatInput, FlatMember, FlatGroup, new_member, is_member, members_from, new_group, group_if, group_at, groups_on, groups_at, groups_in}
-use Rattle.flat_machine.proofs.Basics.{differ, same_self, same_is, and_true, and_false, filter-map, filter_same, filter_none, any_none}
+use Rattle.flat_machine.specs.Flat.{is_nil}
+use Rattle.flat_machine.specs.Machine.{FlatInput, FlatMember, FlatGroup, new_member, is_member, members_from, group_if, groups_on}
+use Rattle.flat_machine.proofs.Basics.{same_self, same_is, and_true, and_false, filter-map, filter_same, any_none}
 use Rattle.flat_machine.proofs.Declared.{event_of}
 use Rattle.flat_machine.proofs.Shape.{top_path, child_at, lead}
 

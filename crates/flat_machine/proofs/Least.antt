@@ -1,5 +1,5 @@
 -- The least values that fail, by going through them in order.
-use Rattle.std.proofs.Common.{◌≡◌, ℕ, zero, suc, ◌+◌, ◌<◌, ◌≤◌, ◌⊎◌, inl, inr, Bool, true, false, List, [], ◌∷◌, ◌++◌, length, refl, sym, ap, ◌∙◌, subst, append_assoc, append-nil, arith}
+use Rattle.std.proofs.Common.{◌≡◌, ℕ, ◌+◌, ◌<◌, ◌≤◌, inl, inr, true, false, List, [], ◌∷◌, ◌++◌, sym, ap, ◌∙◌, subst, append_assoc, append-nil, arith}
 use Rattle.std.proofs.lemmas.Bool.{cases_lt}
 use Rattle.flat_machine.specs.Machine.{Numbers, FlatMember}
 use Rattle.flat_machine.specs.Search.{AreNumbers, AreBefore, fails, Passes, IsLeastFrom}
@@ -16,12 +16,12 @@ module _ (failure : Failure) (ms : List FlatMember) where
 
   pub found_here : (front : Numbers) → fails failure ms front ≡ true → IsLeastFrom failure ms [] front front
   found_here front e = record {
-      rest = [];
-      is = sym (append-nil front);
-      are_numbers = tt;
-      failing = ap (fails failure ms) (append-nil front) ∙ e;
-      before = λ ns h b. none ns b;
-    }
+    rest = [];
+    is = sym (append-nil front);
+    are_numbers = tt;
+    failing = ap (fails failure ms) (append-nil front) ∙ e;
+    before = λ ns h b. none ns b;
+  }
     where
       none : (ns : Numbers) → AreBefore ns [] → fails failure ms (front ++ ns) ≡ false
       none [] b = elim b [ ]
@@ -55,12 +55,12 @@ module _ (failure : Failure) (ms : List FlatMember) where
 
   pub found_below : (size : ℕ) (others : List ℕ) (front : Numbers) (k : ℕ) (found : Numbers) → k < size → PassesBelow others front k → IsLeastFrom failure ms others (front ++ k ∷ []) found → IsLeastFrom failure ms (size ∷ others) front found
   found_below size others front k found small so_far least = record {
-      rest = k ∷ least.rest;
-      is = least.is ∙ append_assoc front (k ∷ []) least.rest;
-      are_numbers = (small, least.are_numbers);
-      failing = ap (fails failure ms) (sym (append_assoc front (k ∷ []) least.rest)) ∙ least.failing;
-      before = before;
-    }
+    rest = k ∷ least.rest;
+    is = least.is ∙ append_assoc front (k ∷ []) least.rest;
+    are_numbers = (small, least.are_numbers);
+    failing = ap (fails failure ms) (sym (append_assoc front (k ∷ []) least.rest)) ∙ least.failing;
+    before = before;
+  }
     where
       before : (ns : Numbers) → AreNumbers (size ∷ others) ns → AreBefore ns (k ∷ least.rest) → fails failure ms (front ++ ns) ≡ false
       before [] h b = elim h [ ]

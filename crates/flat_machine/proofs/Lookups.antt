@@ -1,8 +1,8 @@
 -- What a name is, declaration by declaration.
 use Rattle.std.proofs.lemmas.List.{at_drop_more}
-use Rattle.std.proofs.Common.{◌≡◌, ℕ, zero, suc, ◌+◌, ◌<◌, Bool, true, false, cond, List, [], ◌∷◌, ◌++◌, length, drop, get_or, flat_map, Option, Some, None, is_some, MatchOption, subst, refl, sym, ap, ◌∙◌, arith, slice_get, append_assoc, length-append}
+use Rattle.std.proofs.Common.{◌≡◌, ℕ, suc, ◌+◌, ◌<◌, Bool, true, false, cond, List, [], ◌∷◌, ◌++◌, length, drop, get_or, flat_map, Option, Some, None, is_some, MatchOption, subst, refl, sym, ap, ◌∙◌, arith, slice_get, append_assoc, length-append}
 use Rattle.std.specs.List.{position_from}
-use Rattle.std.specs.Option.{option_map, option_map_or, option_or}
+use Rattle.std.specs.Option.{option_map, option_map_or}
 use Rattle.rsml_syntax.specs.declared.syntax.Decl.{Decl}
 use Rattle.rsml_syntax.specs.declared.syntax.Decl.TheVariants as decl
 use Rattle.std.specs.Prelude.{⊤}
@@ -10,7 +10,7 @@ use Rattle.rsml_syntax.specs.Uses.{is_input}
 use Rattle.rsml_meaning.specs.Words.{Each}
 use Rattle.flat_machine.proofs.Basics.{differ, each_append}
 use Rattle.rsml_syntax.specs.Names.{Name, same, place_of}
-use Rattle.rsml_syntax.specs.Globals.{Known, Globals, globals, meaning, name_of, values_of, known_by, names_of, known_values}
+use Rattle.rsml_syntax.specs.Globals.{Known, globals, meaning, name_of, values_of, known_by, names_of, known_values}
 
 -- the item beside the first name that passes
 abbrev seek : {A B : Type 0} → (A → Bool) → List A → List B → Option B
@@ -32,6 +32,7 @@ seek_is {A} {B} test front (x ∷ xs) (y ∷ ys) e = cases (test x) (again (λ f
         let longer : length (front ++ (y ∷ [])) ≡ length front + 1 = omega (arith, length-append front (y ∷ [])) in
         (λ i. option_map_or (λ p. slice_get (sym (append_assoc front (y ∷ []) ys) i) p) (position_from test (sym longer i) xs) None)
         ∙ later (front ++ (y ∷ [])) (omega (arith, e))
+
     cases : (b : Bool) → option_map_or (λ p. slice_get (front ++ (y ∷ ys)) p) (position_from test (length front + 1) xs) None ≡ seek test xs ys → option_map_or (λ p. slice_get (front ++ (y ∷ ys)) p) (cond b (Some (length front)) (position_from test (length front + 1) xs)) None ≡ cond b (Some y) (seek test xs ys)
     cases true h = slice_get_at front y ys
     cases false h = h

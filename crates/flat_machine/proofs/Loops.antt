@@ -1,5 +1,5 @@
 -- The step and the end of a loop that puts a list for each item behind what is there.
-use Rattle.std.proofs.Common.{◌≡◌, ℕ, zero, suc, ◌+◌, ◌<◌, ◌≤◌, Bool, true, false, cond, List, [], ◌∷◌, ◌++◌, length, take, drop, get_or, subst, slice_get, flat_map, filter, zip, Option, Some, None, refl, sym, ap, ◌∙◌, append_assoc, append-nil, add-one, arith}
+use Rattle.std.proofs.Common.{◌≡◌, ℕ, zero, suc, ◌+◌, ◌<◌, ◌≤◌, Bool, true, false, cond, List, [], ◌∷◌, ◌++◌, length, take, drop, get_or, subst, slice_get, flat_map, filter, zip, refl, sym, ap, ◌∙◌, append_assoc, append-nil, add-one}
 use Rattle.std.specs.Prelude.{if◌then◌else◌}
 use Rattle.flat_machine.specs.Beside.{beside}
 use Rattle.std.proofs.lemmas.List.{at_drop_more, at_drop_all, take_more}
@@ -33,8 +33,8 @@ module _ {A B C : Type 0} (f : A × B → List C) (xs : List A) (ys : List B) (i
   beside_put x put all within is so_far =
       append_assoc put (beside f x (slice_get ys i)) (flat_map f (zip (drop (i + 1) xs) (drop (i + 1) ys)))
       ∙ (sym (at_drop_more (λ zs. put ++ flat_map f (zip zs (drop i ys))) xs i x within
-          ∙ ((λ j. put ++ flat_map f (zip (sym is j ∷ drop (i + 1) xs) (drop i ys)))
-          ∙ ((λ j. put ++ zip_drop f x (drop (i + 1) xs) ys i j) ∙ (λ j. put ++ (beside f x (slice_get ys i) ++ flat_map f (zip (drop (i + 1) xs) (drop (sym (add-one i) j) ys)))))))
+      ∙ ((λ j. put ++ flat_map f (zip (sym is j ∷ drop (i + 1) xs) (drop i ys)))
+      ∙ ((λ j. put ++ zip_drop f x (drop (i + 1) xs) ys i j) ∙ (λ j. put ++ (beside f x (slice_get ys i) ++ flat_map f (zip (drop (i + 1) xs) (drop (sym (add-one i) j) ys)))))))
       ∙ so_far)
 
   pub all_beside : (put all : List C) → length xs ≤ i → put ++ flat_map f (zip (drop i xs) (drop i ys)) ≡ all → put ≡ all
@@ -53,7 +53,7 @@ module _ {A B : Type 0} (f : A → List B) (test : A → Bool) (xs : List A) (i 
   kept_put x put all within is so_far =
       append_assoc put (if test x then f x else []) (flat_map f (filter test (drop (i + 1) xs)))
       ∙ (sym (at_drop_more (λ ys. put ++ flat_map f (filter test ys)) xs i x within
-          ∙ ((λ j. put ++ flat_map f (filter test (sym is j ∷ drop (i + 1) xs))) ∙ (λ j. put ++ kept_drop f test x (drop (i + 1) xs) j)))
+      ∙ ((λ j. put ++ flat_map f (filter test (sym is j ∷ drop (i + 1) xs))) ∙ (λ j. put ++ kept_drop f test x (drop (i + 1) xs) j)))
       ∙ so_far)
 
   pub all_kept : (put all : List B) → length xs ≤ i → put ++ flat_map f (filter test (drop i xs)) ≡ all → put ≡ all

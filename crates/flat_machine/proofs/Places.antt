@@ -1,5 +1,5 @@
 -- The least world of a child.
-use Rattle.std.proofs.Common.{◌≡◌, ℕ, zero, suc, ◌+◌, ◌<◌, ◌≤◌, ◌⊎◌, inl, inr, Bool, true, false, cond, ◌&&◌, ◌||◌, nat_lt, nat_eq, List, [], ◌∷◌, map, length, refl, sym, ap, ◌∙◌, subst, arith}
+use Rattle.std.proofs.Common.{◌≡◌, ℕ, zero, suc, ◌<◌, ◌≤◌, ◌⊎◌, inl, inr, Bool, true, false, cond, ◌||◌, nat_lt, List, [], ◌∷◌, map, length, refl, sym, ◌∙◌, arith}
 use Rattle.std.specs.Prelude.{pos, if◌then◌else◌, slice_index_or, ◌==◌}
 use Rattle.std.specs.List.{list_any}
 use Rattle.std.proofs.Math.Dec.{eqb-suc-zero}
@@ -7,11 +7,11 @@ use Rattle.std.specs.Ordering.{nat_cmp, int_cmp, ordering_then}
 use Rattle.std.specs.Cmp.Lexicographic.{slice_cmp}
 use Rattle.std.specs.declared.cmp.Ordering.{Ordering}
 use Rattle.std.specs.declared.cmp.Ordering.TheVariants.{Less, Equal, Greater}
-use Rattle.std.proofs.lemmas.Bool.{cases_lt, cases_order, ltb-true, ltb-false, lt-ltb, le-ltb, eq-eqb, eqb-true}
+use Rattle.std.proofs.lemmas.Bool.{ltb-true, ltb-false, le-ltb}
 use Rattle.rsml_syntax.specs.declared.syntax.StateDecl.{StateDecl}
 use Rattle.rsml_syntax.specs.declared.world.World.{World}
 use Rattle.rsml_syntax.specs.Names.{Name, same}
-use Rattle.rsml_meaning.specs.Worlds.{world_cmp, IsBefore}
+use Rattle.rsml_meaning.specs.Worlds.{IsBefore}
 use Rattle.flat_machine.specs.Machine.{Numbers}
 use Rattle.flat_machine.specs.Search.{AreNumbers, AreBefore}
 use Rattle.flat_machine.specs.FlatTexts.{begins}
@@ -73,9 +73,9 @@ by_tests o false false h = inr (refl, refl, h)
 
 number_before : (a b : ℕ) (o : Ordering) → ordering_then (int_cmp (pos a) (pos b)) o ≡ Less → (a < b) ⊎ ((a ≡ b) × (o ≡ Less))
 number_before a b o h = elim (by_tests o (nat_lt a b) (nat_lt b a) h) [
-    | inl l ↦ inl (ltb-true a b l)
-    | inr r ↦ inr (let up = ltb-false a b r.0 in let down = ltb-false b a r.1 in let e : a ≡ b = omega arith in e, r.2)
-  ]
+  | inl l ↦ inl (ltb-true a b l)
+  | inr r ↦ inr (let up = ltb-false a b r.0 in let down = ltb-false b a r.1 in let e : a ≡ b = omega arith in e, r.2)
+]
 
 pub numbers_before : (sizes : List ℕ) (ns ms : Numbers) → AreNumbers sizes ns → AreNumbers sizes ms → slice_cmp int_cmp (map pos ns) (map pos ms) ≡ Less → AreBefore ns ms
 numbers_before [] [] [] a b h = cc
@@ -84,9 +84,9 @@ numbers_before [] [] (m ∷ ms) a b h = elim b [ ]
 numbers_before (k ∷ ks) [] ms a b h = elim a [ ]
 numbers_before (k ∷ ks) (n ∷ ns) [] a b h = elim b [ ]
 numbers_before (k ∷ ks) (n ∷ ns) (m ∷ ms) a b h = elim (number_before n m (slice_cmp int_cmp (map pos ns) (map pos ms)) h) [
-    | inl l ↦ inl l
-    | inr r ↦ inr (r.0, numbers_before ks ns ms a.1 b.1 r.1)
-  ]
+  | inl l ↦ inl l
+  | inr r ↦ inr (r.0, numbers_before ks ns ms a.1 b.1 r.1)
+]
 
 -- a place that is not less decides nothing
 by_places : (o : Ordering) (p q : Bool) → p ≡ false → ordering_then (ordering_then (cond p Less (cond q Equal Greater)) Equal) o ≡ Less → o ≡ Less

@@ -1,6 +1,6 @@
 -- No sum of a flat specification names a previous input.
-use Rattle.std.proofs.Common.{◌≡◌, ℕ, ◌+◌, length, Bool, true, false, cond, ◌&&◌, ◌||◌, not, List, [], ◌∷◌, ◌++◌, map, flat_map, filter, Option, Some, None, is_none, is_some, refl, sym, ap, ◌∙◌}
-use Rattle.std.specs.List.{list_any, list_all}
+use Rattle.std.proofs.Common.{◌≡◌, ℕ, ◌+◌, length, Bool, true, false, cond, ◌||◌, not, List, [], ◌∷◌, ◌++◌, flat_map, Option, Some, None, is_none, is_some, refl, sym, ◌∙◌}
+use Rattle.std.specs.List.{list_any}
 use Rattle.std.specs.Option.{option_map_or}
 use Rattle.std.specs.Cmp.{first_so, second_so}
 use Rattle.rsml_syntax.specs.declared.syntax.Spec.{Spec}
@@ -20,17 +20,15 @@ use Rattle.rsml_syntax.specs.declared.syntax.Row.{Row}
 use Rattle.rsml_syntax.specs.declared.syntax.Guard.{Guard}
 use Rattle.rsml_syntax.specs.declared.syntax.Guard.TheVariants as guards
 use Rattle.rsml_syntax.specs.declared.syntax.Transition.{Transition}
-use Rattle.rsml_syntax.specs.declared.syntax.StateDecl.{StateDecl}
 use Rattle.rsml_syntax.specs.declared.syntax.Body.{Body, Basic, One', All', Row_of-StateDecl, end_of-StateDecl, more_of-StateDecl, items-the_row-StateDecl}
 use Rattle.rsml_syntax.specs.Names.{Name}
 use Rattle.rsml_syntax.specs.Globals.{Globals}
 use Rattle.rsml_syntax.specs.declared.syntax.Amount.{Amount}
-use Rattle.rsml_syntax.specs.Parts.{Part, Declared, Opens, Closes, parts, declared, inside, row_parts, placed, nearer, top_of, State, transitions_of, children_of, buses_of}
+use Rattle.rsml_syntax.specs.Parts.{Part, Opens, Closes, declared, inside, row_parts, placed, nearer, top_of, transitions_of, children_of, buses_of}
 use Rattle.rsml_syntax.specs.Names.{is_in}
 use Rattle.rsml_syntax.specs.Globals.{names_of}
 use Rattle.rsml_syntax.specs.Written.{simple_of, sums_in, sums_of_row, sums_of_guard, guards_of, sums_of}
 use Rattle.rsml_syntax.specs.Previous.{sums_of_part, is_previous, names_previous}
-use Rattle.rsml_meaning.specs.Words.{Each}
 use Rattle.flat_machine.specs.Flat.{plain, plain_terms, plain_operand, is_input_sum, is_value_sum, names_input, names_value, is_flat_simple, is_flat_phrase, are_flat_rows, is_flat_guard, is_flat_transition, are_flat_transitions, is_flat_decl, are_flat_decls, is_flat_child, are_flat_children, is_flat_body, is_flat_target, is_nil, is_all}
 use Rattle.flat_machine.proofs.Basics.{differ}
 

@@ -1,6 +1,6 @@
 -- Products that stop at a greatest number.
-use Rattle.std.proofs.Common.{◌≡◌, ℕ, zero, suc, ◌+◌, ◌*◌, ◌<◌, ◌≤◌, ◌⊎◌, inl, inr, min, List, [], ◌∷◌, ◌++◌, length, drop, get_or, flat_map, fold, refl, sym, ap, ◌∙◌, arith}
-use Rattle.std.proofs.Math.Nat.{mul-le-mul_left, mul-le-mul_right}
+use Rattle.std.proofs.Common.{◌≡◌, ℕ, zero, suc, ◌+◌, ◌*◌, ◌<◌, ◌≤◌, inl, inr, min, List, [], ◌∷◌, ◌++◌, length, drop, get_or, flat_map, refl, sym, ap, ◌∙◌, arith}
+use Rattle.std.proofs.Math.Nat.{mul-le-mul_left}
 use Rattle.std.proofs.lemmas.Bool.{cases_lt}
 use Rattle.std.proofs.lemmas.List.{at_drop_more, at_drop_all}
 use Rattle.flat_machine.specs.Flat.{product_from}
@@ -10,6 +10,7 @@ times most a n = elim (cases_lt most a) [ inl over ↦ past n over | inr under �
   where
     kept : a ≤ most → min a most ≡ a
     kept h = omega arith
+
     past : (n : ℕ) → most < a → min (min a most * n) most ≡ min (a * n) most
     past zero h = grind arith
     past (suc k) h =

@@ -1,6 +1,6 @@
 -- The text of what is found of a group is that of the definitions.
-use Rattle.std.proofs.Common.{◌≡◌, ℕ, suc, ◌+◌, ◌<◌, Bool, true, false, cond, ◌&&◌, ◌||◌, not, nat_eq, List, [], ◌∷◌, ◌++◌, map, length, drop, flat_map, filter, zip, Option, Some, None, is_none, refl, sym, ap, ◌∙◌, subst, arith, append-nil}
-use Rattle.std.specs.Prelude.{ℤ, pos, if◌then◌else◌, ◌==◌, slice_index_or, codes, decimal}
+use Rattle.std.proofs.Common.{◌≡◌, ℕ, suc, true, false, ◌&&◌, List, [], ◌∷◌, ◌++◌, map, length, drop, flat_map, zip, Option, Some, None, is_none, refl, sym, ap, ◌∙◌, subst, arith, append-nil}
+use Rattle.std.specs.Prelude.{pos, if◌then◌else◌, ◌==◌, slice_index_or, codes, decimal}
 use Rattle.std.specs.Ordering.{int_eq}
 use Rattle.std.proofs.lemmas.Bool.Decides.{nat_tests}
 use Rattle.std.specs.Cmp.{first_so, second_so}
@@ -9,23 +9,20 @@ use Rattle.rsml_syntax.specs.declared.syntax.Transition.{Transition}
 use Rattle.rsml_syntax.specs.declared.syntax.StateDecl.{StateDecl}
 use Rattle.rsml_syntax.specs.declared.syntax.Body.{Body}
 use Rattle.rsml_syntax.specs.declared.syntax.Spec.{Spec}
-use Rattle.rsml_syntax.specs.declared.world.World.{World}
-use Rattle.rsml_syntax.specs.Names.{Name, same}
+use Rattle.rsml_syntax.specs.Names.{Name}
 use Rattle.rsml_syntax.specs.Globals.{Globals, globals}
 use Rattle.rsml_syntax.specs.Parts.{children_of, transitions_of}
-use Rattle.rsml_meaning.specs.Words.{Path, at, child_path, Each}
-use Rattle.rsml_meaning.specs.Instances.{Component}
-use Rattle.rsml_meaning.specs.Active.{chosen}
-use Rattle.rsml_meaning.specs.Cells.{InputCell, cells, own_cells}
-use Rattle.rsml_meaning.specs.Texts.{Text, text_line, instance_text, path_text, value_text, last_name, action_text, label, cell_text}
-use Rattle.rsml_meaning.specs.Groups.{Group, Member, transition}
+use Rattle.rsml_meaning.specs.Words.{at, child_path, Each}
+use Rattle.rsml_meaning.specs.Cells.{InputCell, own_cells}
+use Rattle.rsml_meaning.specs.Texts.{Text, text_line, instance_text, path_text, value_text, action_text, label}
+use Rattle.rsml_meaning.specs.Groups.{Member, transition}
 use Rattle.rsml_meaning.specs.Transitions.{TransitionInstance, target_path}
 use Rattle.std.specs.Option.{option_map}
-use Rattle.rsml_meaning.specs.Report.{choice_line, cell_line, world_text, member_label, enabled_text, confirmed, finding, group_text}
-use Rattle.flat_machine.specs.Flat.{is_nil, is_flat_guard, is_flat_body, are_flat_decls, is_flat_target, is_flat_transition}
-use Rattle.flat_machine.specs.Machine.{target_of, Numbers, FlatInput, FlatMember, FlatGroup, inputs_in, rows_of, guard_truth, members_from, enabled_in}
+use Rattle.rsml_meaning.specs.Report.{choice_line, cell_line, world_text, member_label, enabled_text, confirmed, finding}
+use Rattle.flat_machine.specs.Flat.{is_nil, is_flat_guard, is_flat_body, are_flat_decls, is_flat_target}
+use Rattle.flat_machine.specs.Machine.{target_of, Numbers, FlatInput, FlatGroup, inputs_in, rows_of, guard_truth}
 use Rattle.flat_machine.specs.Search.{sizes, AreNumbers, IsFound}
-use Rattle.flat_machine.specs.FlatTexts.{child_text, begins, flat_choice_line, flat_cell_line, value_of, flat_world_text, flat_action, flat_label, member_line, members_text, flat_enabled_text, finding_text}
+use Rattle.flat_machine.specs.FlatTexts.{child_text, flat_choice_line, flat_cell_line, value_of, flat_world_text, flat_action, flat_label, member_line, members_text, flat_enabled_text, finding_text}
 use Rattle.flat_machine.specs.Answered.{child_place, world_of, told_of}
 use Rattle.flat_machine.specs.declared.verdict.Verdict.{Verdict}
 use Rattle.flat_machine.specs.declared.verdict.Verdict.TheVariants as verdicts
@@ -35,7 +32,7 @@ use Rattle.flat_machine.proofs.Shape.{top_path, child_at, lead, spec_of, cells_a
 use Rattle.flat_machine.proofs.Guards.{equal}
 use Rattle.flat_machine.proofs.Kept.{kept_from, member_of, group_of}
 use Rattle.flat_machine.proofs.Enabled.{HasComponent, enabled_kept, enabled_members, IsFlatMember, kept_are_flat, source_is, enabled_are}
-use Rattle.flat_machine.proofs.Places.{names_of, has_child, place_is, begins_is}
+use Rattle.flat_machine.proofs.Places.{names_of, place_is, begins_is}
 use Rattle.flat_machine.proofs.Judged.{IsGroup}
 
 -- CELLS
@@ -47,7 +44,7 @@ value_text_is (v ∷ vs) n h = refl
 cell_line_is : (c : InputCell) (x : FlatInput) (n : ℕ) → IsCell c x → cell_line (c, pos n) ≡ flat_cell_line (x, n)
 cell_line_is c x n is =
     (λ i. if int_eq (pos n) (is.numbers_is i).low then [] else
-        text_line (codes "  " ++ ((if is.previous_is i then codes "previous " ++ instance_text (is.input_is i) else instance_text (is.input_is i)) ++ (codes " = " ++ (value_text (is.numbers_is i).names (pos n) ++ codes " | T")))))
+    text_line (codes "  " ++ ((if is.previous_is i then codes "previous " ++ instance_text (is.input_is i) else instance_text (is.input_is i)) ++ (codes " = " ++ (value_text (is.numbers_is i).names (pos n) ++ codes " | T")))))
     ∙ (λ i. if equal n 0 i then [] else text_line (codes "  " ++ (x.name ++ (codes " = " ++ (value_text_is x.values n is.has_values i ++ codes " | T")))))
 
 cells_text : (cs : List InputCell) (xs : List FlatInput) (ns : Numbers) → Beside IsCell cs xs → flat_map cell_line (zip cs (map pos ns)) ≡ flat_map flat_cell_line (zip xs ns)
@@ -68,14 +65,15 @@ action_is top child source target e h t es et = (λ i. of (es i) (et i)) ∙ by 
   where
     of : Name → Option (List Name) → Text
     of name target = elim (option_map (target_path (top_path top)) target) [
-        | None ↦ codes " stay " ++ name
-        | Some path ↦ codes " move " ++ (name ++ (codes " -> " ++ path_text (drop 1 path)))
-      ]
+      | None ↦ codes " stay " ++ name
+      | Some path ↦ codes " move " ++ (name ++ (codes " -> " ++ path_text (drop 1 path)))
+    ]
+
     by : (target : Option (List Name)) → is_flat_target target ≡ true →
-      elim (option_map (target_path (top_path top)) target) [
-        | None ↦ codes " stay " ++ source
-        | Some path ↦ codes " move " ++ (source ++ (codes " -> " ++ path_text (drop 1 path)))
-      ] ≡ flat_action child (target_of target)
+        elim (option_map (target_path (top_path top)) target) [
+          | None ↦ codes " stay " ++ source
+          | Some path ↦ codes " move " ++ (source ++ (codes " -> " ++ path_text (drop 1 path)))
+        ] ≡ flat_action child (target_of target)
     by None h = ap (λ n. codes " stay " ++ n) e
     by (Some []) h = cc
     by (Some (name ∷ [])) h = ap (λ n. codes " move " ++ (n ++ (codes " -> " ++ name))) e
@@ -137,8 +135,8 @@ module _ (name : Name) (decls : List Decl) (top : Name) (ds : are_flat_decls (gl
       each : Each (λ (t : ℕ × Transition). line_of (transition (lead top t)) ≡ member_line top x.child (member_of g xs t)) (enabled_kept name decls top ds b flat ns x.child x.event)
       each =
           each_more (λ (t : ℕ × Transition). IsFlatMember name decls top ds b flat x.child x.event t × (guard_truth ns (rows_of g xs t.1.guard) ≡ true)) (λ (t : ℕ × Transition). line_of (transition (lead top t)) ≡ member_line top x.child (member_of g xs t))
-            (λ t h. member_is t h.0) (enabled_kept name decls top ds b flat ns x.child x.event)
-            (each_kept (IsFlatMember name decls top ds b flat x.child x.event) (λ (t : ℕ × Transition). guard_truth ns (rows_of g xs t.1.guard)) (kept_from x.child x.event 1 (transitions_of b)) (kept_are_flat name decls top ds b flat x.child x.event))
+          (λ t h. member_is t h.0) (enabled_kept name decls top ds b flat ns x.child x.event)
+          (each_kept (IsFlatMember name decls top ds b flat x.child x.event) (λ (t : ℕ × Transition). guard_truth ns (rows_of g xs t.1.guard)) (kept_from x.child x.event 1 (transitions_of b)) (kept_are_flat name decls top ds b flat x.child x.event))
 
   pub finding_is : (v : Verdict) → IsFound (sizes xs) x.members v → finding s (group_of top x, told_of cs x.child v) ≡ finding_text top xs cs x v
   finding_is verdicts.Sound h = refl

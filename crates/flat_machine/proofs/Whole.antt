@@ -1,6 +1,6 @@
 -- The whole report on a flat specification, and when it certifies.
-use Rattle.std.proofs.Common.{◌≡◌, ℕ, suc, ◌+◌, ◌<◌, ◌≤◌, ◌⊎◌, inl, inr, Bool, true, false, cond, ◌&&◌, ◌||◌, not, List, [], ◌∷◌, ◌++◌, map, length, flat_map, filter, zip, Option, Some, None, is_some, is_none, refl, sym, ap, ◌∙◌, subst, arith, append-nil, append_assoc}
-use Rattle.std.specs.Prelude.{pos, if◌then◌else◌, ◌==◌, nat_le, IsTrue, ◌↔◌, codes, decimal}
+use Rattle.std.proofs.Common.{◌≡◌, ℕ, suc, ◌⊎◌, inl, inr, Bool, true, false, cond, ◌&&◌, ◌||◌, List, [], ◌∷◌, ◌++◌, map, length, flat_map, filter, zip, Option, Some, None, is_some, is_none, refl, sym, ap, ◌∙◌, subst, arith, append_assoc}
+use Rattle.std.specs.Prelude.{if◌then◌else◌, ◌==◌, nat_le, IsTrue, ◌↔◌, codes, decimal}
 use Rattle.std.specs.Fmt.{digits}
 use Rattle.std.specs.List.{list_any, AllZip, items_where_true}
 use Rattle.std.specs.Cmp.{first_so, second_so}
@@ -10,7 +10,6 @@ use Rattle.rsml_syntax.specs.declared.syntax.Decl.{Decl}
 use Rattle.rsml_syntax.specs.declared.syntax.Decl.TheVariants as decl
 use Rattle.rsml_syntax.specs.declared.syntax.Amount.{Amount}
 use Rattle.rsml_syntax.specs.declared.syntax.Index.{Index}
-use Rattle.rsml_syntax.specs.declared.syntax.Mention.{Mention}
 use Rattle.rsml_syntax.specs.declared.syntax.StateDecl.{StateDecl}
 use Rattle.rsml_syntax.specs.declared.syntax.Body.{Body, Basic, One', All'}
 use Rattle.rsml_syntax.specs.declared.syntax.Spec.{Spec}
@@ -18,18 +17,18 @@ use Rattle.rsml_syntax.specs.Names.{Name, same}
 use Rattle.rsml_syntax.specs.Globals.{Globals, globals}
 use Rattle.rsml_syntax.specs.Parts.{children_of}
 use Rattle.rsml_meaning.specs.Words.{Instance, at, same_instance, Each}
-use Rattle.rsml_meaning.specs.Instances.{events, components, row_names, new_component}
-use Rattle.rsml_meaning.specs.Interfaces.{receives, receives_of}
-use Rattle.rsml_meaning.specs.Groups.{Group, groups, Sound}
+use Rattle.rsml_meaning.specs.Instances.{events, row_names, new_component}
+use Rattle.rsml_meaning.specs.Interfaces.{receives_of}
+use Rattle.rsml_meaning.specs.Groups.{groups, Sound}
 use Rattle.rsml_meaning.specs.Chains.{is_external}
 use Rattle.rsml_meaning.specs.Certified.{Certified}
 use Rattle.rsml_meaning.specs.Findings.{IsVerdict}
 use Rattle.rsml_meaning.specs.Texts.{Text, text_line}
-use Rattle.rsml_meaning.specs.Report.{Answers, AreRight, IsReport, externals, chain_line, looping, loop_line, clash_line, finding, is_finding, refusals, last_line, report_text}
+use Rattle.rsml_meaning.specs.Report.{AreRight, IsReport, externals, chain_line, looping, loop_line, clash_line, finding, is_finding, refusals, last_line, report_text}
 use Rattle.flat_machine.specs.Flat.{is_flat_decl, is_flat_body, are_flat_decls, worlds, is_flat}
 use Rattle.flat_machine.specs.Machine.{FlatInput, FlatGroup, inputs_in, inputs, flat_groups}
 use Rattle.flat_machine.specs.Search.{sizes, IsFoundOf, AreFound}
-use Rattle.flat_machine.specs.FlatTexts.{raises, is_raised, chain_text, event_text, chain_of, flat_finding, is_found, head_text, flat_report_text}
+use Rattle.flat_machine.specs.FlatTexts.{is_raised, chain_text, chain_of, flat_finding, is_found, flat_report_text}
 use Rattle.flat_machine.specs.Answered.{told, told_of, one_long, without_clash, without_loop, answers}
 use Rattle.flat_machine.specs.declared.verdict.Verdict.{Verdict}
 use Rattle.flat_machine.specs.declared.verdict.Verdict.TheVariants as verdicts
@@ -104,7 +103,7 @@ module _ (name : Name) (decls : List Decl) (top : Name) (ds : are_flat_decls (gl
       (λ i. flat_map line (cond (raised_in g event decls ds i) (at event 0 ∷ filter (is_external s) (flat_map event_of es)) (filter (is_external s) (flat_map event_of es)))) ∙ by (is_raised decls event) (chains_in es)
     where
       by : (r : Bool) → flat_map line (filter (is_external s) (flat_map event_of es)) ≡ flat_map (chain_of decls) es →
-        flat_map line (cond r (at event 0 ∷ filter (is_external s) (flat_map event_of es)) (filter (is_external s) (flat_map event_of es))) ≡ (if r then chain_text event else []) ++ flat_map (chain_of decls) es
+          flat_map line (cond r (at event 0 ∷ filter (is_external s) (flat_map event_of es)) (filter (is_external s) (flat_map event_of es))) ≡ (if r then chain_text event else []) ++ flat_map (chain_of decls) es
       by true e = λ i. chain_line_is event i ++ e i
       by false e = e
   chains_in (decl.Enumeration _ _ ∷ es) = chains_in es
@@ -161,23 +160,23 @@ module _ (name : Name) (decls : List Decl) (top : Name) (ds : are_flat_decls (gl
 
   shown : (vs : List Verdict) → AllZip (IsFoundOf (sizes xs)) (flat_groups s) vs → Shown (flat_groups s) vs
   shown vs h = elim (component_or_none b flat) [
-      | inl none ↦ shown_none (flat_groups s) vs none h
-      | inr comp ↦ record {
-          right = right_verdicts name decls top ds b flat comp (flat_groups s) vs (are_groups name decls top ds b flat) h;
-          findings = right_findings name decls top ds b flat comp (flat_groups s) vs (are_groups name decls top ds b flat) h;
-          sound = all_sound name decls top ds b flat comp (flat_groups s) vs (are_groups name decls top ds b flat) h;
-          found = all_found_so name decls top ds b flat comp (flat_groups s) vs (are_groups name decls top ds b flat) h;
-        }
-    ]
+    | inl none ↦ shown_none (flat_groups s) vs none h
+    | inr comp ↦ record {
+      right = right_verdicts name decls top ds b flat comp (flat_groups s) vs (are_groups name decls top ds b flat) h;
+      findings = right_findings name decls top ds b flat comp (flat_groups s) vs (are_groups name decls top ds b flat) h;
+      sound = all_sound name decls top ds b flat comp (flat_groups s) vs (are_groups name decls top ds b flat) h;
+      found = all_found_so name decls top ds b flat comp (flat_groups s) vs (are_groups name decls top ds b flat) h;
+    }
+  ]
 
   module _ (vs : List Verdict) (h : AllZip (IsFoundOf (sizes xs)) (flat_groups s) vs) where
     pub are_right : AreRight s (answers s vs)
     are_right = record {
-        lengths = lengths_right name decls top b flat;
-        clashes = clashes_right name decls top b flat;
-        loops = loops_right name decls top b flat;
-        verdicts = subst (λ gs. AllZip (IsVerdict s) gs (answers s vs).verdicts) (sym (groups_are name decls top ds b flat)) (shown vs h).right;
-      }
+      lengths = lengths_right name decls top b flat;
+      clashes = clashes_right name decls top b flat;
+      loops = loops_right name decls top b flat;
+      verdicts = subst (λ gs. AllZip (IsVerdict s) gs (answers s vs).verdicts) (sym (groups_are name decls top ds b flat)) (shown vs h).right;
+    }
 
     count_is : refusals s (answers s vs) ≡ length (filter is_found vs)
     count_is =
@@ -198,11 +197,14 @@ module _ (name : Name) (decls : List Decl) (top : Name) (ds : are_flat_decls (gl
         ∙ sym (λ i. text_line (codes "specification " ++ name) ++ (text_line (codes "groups " ++ decimal (length_is i)) ++ (chains_are i ++ (flat_map loop_line (no_loops (events s) i) ++ (clashes_are i ++ (findings_are i ++ last_line (count_is i)))))))
 
     pub certifies : IsTrue (length (filter is_found vs) == 0) ↔ Certified s
-    certifies = (λ e. record {
+    certifies = (
+      λ e. record {
         sound = subst (Each (Sound s)) (sym (groups_are name decls top ds b flat)) ((shown vs h).sound (eqb-true (length (filter is_found vs)) 0 e));
         no_loop = no_loop name decls top b flat;
         no_clash = no_clash name decls top b flat;
-      }, λ c. eq-eqb (length (filter is_found vs)) 0 ((shown vs h).found (subst (Each (Sound s)) (groups_are name decls top ds b flat) c.sound)))
+      },
+      λ c. eq-eqb (length (filter is_found vs)) 0 ((shown vs h).found (subst (Each (Sound s)) (groups_are name decls top ds b flat) c.sound)),
+    )
 
 -- A flat specification and what is found of its groups.
 module _ (s : Spec) (h : is_flat s ≡ true) (vs : List Verdict) (found : AreFound s vs) where

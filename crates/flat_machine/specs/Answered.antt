@@ -42,8 +42,8 @@ without_loop e = false
 
 abbrev pub answers : Spec → List Verdict → Answers
 answers s vs = record {
-    lengths = map one_long (externals s);
-    clashes = map without_clash (externals s);
-    loops = map without_loop (events s);
-    verdicts = map (told (children_of s.body)) (zip (flat_groups s) vs);
-  }
+  lengths = map one_long (externals s);
+  clashes = map without_clash (externals s);
+  loops = map without_loop (events s);
+  verdicts = map (told (children_of s.body)) (zip (flat_groups s) vs);
+}

@@ -1,12 +1,12 @@
 -- Flat specifications: one component at most, over inputs of enumerations, and few worlds.
-use Rattle.std.specs.Prelude.{ℕ, ◌*◌, Bool, true, false, not, ◌&&◌, List, [], ◌∷◌, ◌++◌, map, length, flat_map, fold, Option, Some, None, is_some, is_none, if◌then◌else◌, nat_le, ◌==◌}
+use Rattle.std.specs.Prelude.{ℕ, ◌*◌, Bool, true, false, not, ◌&&◌, List, [], ◌∷◌, length, flat_map, fold, Option, Some, None, is_some, is_none, if◌then◌else◌, nat_le, ◌==◌}
 use Rattle.std.specs.List.{list_all}
 use Rattle.std.specs.Option.{option_map_or, option_and_then}
 use Rattle.rsml_syntax.specs.declared.syntax.Spec.{Spec}
 use Rattle.rsml_syntax.specs.declared.syntax.Decl.{Decl}
 use Rattle.rsml_syntax.specs.declared.syntax.Decl.TheVariants as decl
 use Rattle.rsml_syntax.specs.declared.syntax.StateDecl.{StateDecl}
-use Rattle.rsml_syntax.specs.declared.syntax.Body.{Body, Basic, One', All', items-the_row-StateDecl}
+use Rattle.rsml_syntax.specs.declared.syntax.Body.{Body, One', All', items-the_row-StateDecl}
 use Rattle.rsml_syntax.specs.declared.syntax.Transition.{Transition}
 use Rattle.rsml_syntax.specs.declared.syntax.Guard.{Guard}
 use Rattle.rsml_syntax.specs.declared.syntax.Guard.TheVariants as guards
@@ -22,7 +22,7 @@ use Rattle.rsml_syntax.specs.declared.syntax.Operand.{Operand}
 use Rattle.rsml_syntax.specs.declared.syntax.Operand.TheVariants as operands
 use Rattle.rsml_syntax.specs.declared.syntax.Mention.{Mention}
 use Rattle.rsml_syntax.specs.Names.{Name}
-use Rattle.rsml_syntax.specs.Globals.{Globals, globals, Known, meaning, values_of}
+use Rattle.rsml_syntax.specs.Globals.{Globals, globals, meaning, values_of}
 use Rattle.rsml_syntax.specs.Uses.{is_input}
 use Rattle.rsml_syntax.specs.Parts.{children_of, buses_of, transitions_of, is_basic}
 

@@ -91,11 +91,7 @@ pub fn verdicts(alloc: Global, spec: &Spec) -> Result<Vec<Verdict>, NoMemory>
 
 /// The text of the report on a flat specification over what is found of its groups. Names are
 /// written byte for byte. The only error is want of memory.
-pub fn report_text(
-    alloc: Global,
-    spec: &Spec,
-    verdicts: &[Verdict],
-) -> Result<Vec<u8>, NoMemory>
+pub fn report_text(alloc: Global, spec: &Spec, verdicts: &[Verdict]) -> Result<Vec<u8>, NoMemory>
     requires flat { IsTrue (flat.is_flat spec.now) }
     requires found { search.AreFound spec.now verdicts.now }
     ensures { IfOk result (λ t. t.items ≡ told.report_text spec.now (answers spec.now verdicts.now)) }
@@ -109,7 +105,14 @@ pub fn report_text(
     };
     let decls = spec.decls.as_slice();
     let mut out = Vec::new(alloc);
-    put_report(&mut out, spec.name.bytes(), decls, &names, groups.as_slice(), verdicts)?;
+    put_report(
+        &mut out,
+        spec.name.bytes(),
+        decls,
+        &names,
+        groups.as_slice(),
+        verdicts,
+    )?;
     Ok(out)
 }
 

@@ -8,7 +8,9 @@ use crate::body::{children_of, transitions_of};
 use crate::flat::plain;
 use crate::lookup::{enumeration, value_place};
 use crate::machine::{FlatGroup, FlatInput, FlatMember, FlatRow};
-use rsml_syntax::{Decl, Guard, NoMemory, Phrase, Row, Simple, Spec, StateDecl, Sum, Text, Transition};
+use rsml_syntax::{
+    Decl, Guard, NoMemory, Phrase, Row, Simple, Spec, StateDecl, Sum, Text, Transition,
+};
 use std::alloc::Global;
 
 /// What the members of groups are made over: the declarations, the inputs and the transitions.
@@ -95,7 +97,11 @@ fn make_row<'a>(whole: &Whole<'a>, row: &'a Row) -> FlatRow<'a>
     }
 }
 
-fn make_rows<'a>(alloc: Global, whole: &Whole<'a>, rows: &'a [Row]) -> Result<Vec<FlatRow<'a>>, NoMemory>
+fn make_rows<'a>(
+    alloc: Global,
+    whole: &Whole<'a>,
+    rows: &'a [Row],
+) -> Result<Vec<FlatRow<'a>>, NoMemory>
     ensures { IfOk result (λ v. v.items ≡ map (machine.new_row (known.globals whole.now.decls.now) whole.now.inputs.items) rows.now) }
 {
     let mut found = Vec::new(alloc);
@@ -105,7 +111,11 @@ fn make_rows<'a>(alloc: Global, whole: &Whole<'a>, rows: &'a [Row]) -> Result<Ve
     Ok(found)
 }
 
-fn make_guard<'a>(alloc: Global, whole: &Whole<'a>, guard: &'a Guard) -> Result<Option<Vec<FlatRow<'a>>>, NoMemory>
+fn make_guard<'a>(
+    alloc: Global,
+    whole: &Whole<'a>,
+    guard: &'a Guard,
+) -> Result<Option<Vec<FlatRow<'a>>>, NoMemory>
     ensures { IfOk result (λ o. option_map (λ v. v.items) o ≡ machine.rows_of (known.globals whole.now.decls.now) whole.now.inputs.items guard.now) }
 {
     match guard {
@@ -127,7 +137,12 @@ fn target_of(transition: &Transition) -> Option<&Text>
     }
 }
 
-fn make_member<'a>(alloc: Global, whole: &Whole<'a>, ordinal: usize, transition: &'a Transition) -> Result<FlatMember<'a>, NoMemory>
+fn make_member<'a>(
+    alloc: Global,
+    whole: &Whole<'a>,
+    ordinal: usize,
+    transition: &'a Transition,
+) -> Result<FlatMember<'a>, NoMemory>
     ensures { IfOk result (λ m. m ≡ machine.new_member (known.globals whole.now.decls.now) whole.now.inputs.items ordinal transition.now) }
 {
     let rows = make_guard(alloc, whole, &transition.guard)?;
@@ -146,7 +161,12 @@ fn is_member(child: &[u8], event: &[u8], transition: &Transition) -> bool
 }
 
 /// The transitions from this child on this event, in order.
-fn members<'a>(alloc: Global, whole: &Whole<'a>, child: &[u8], event: &[u8]) -> Result<Vec<FlatMember<'a>>, NoMemory>
+fn members<'a>(
+    alloc: Global,
+    whole: &Whole<'a>,
+    child: &[u8],
+    event: &[u8],
+) -> Result<Vec<FlatMember<'a>>, NoMemory>
     ensures { IfOk result (λ v. v.items ≡ machine.members_from (known.globals whole.now.decls.now) whole.now.inputs.items child.now event.now 1 whole.now.transitions.now) }
 {
     let mut found = Vec::new(alloc);
@@ -160,7 +180,13 @@ fn members<'a>(alloc: Global, whole: &Whole<'a>, child: &[u8], event: &[u8]) -> 
 }
 
 /// Puts the group of a child with an event behind the others, if it has members.
-fn put_group<'a>(alloc: Global, whole: &Whole<'a>, child: &'a Text, event: &'a Text, groups: &mut Vec<FlatGroup<'a>>) -> Result<(), NoMemory>
+fn put_group<'a>(
+    alloc: Global,
+    whole: &Whole<'a>,
+    child: &'a Text,
+    event: &'a Text,
+    groups: &mut Vec<FlatGroup<'a>>,
+) -> Result<(), NoMemory>
     ensures { OnOk result (groups.new.items ≡ groups.old.items ++ machine.group_at (known.globals whole.now.decls.now) whole.now.inputs.items whole.now.transitions.now child.now event.now) }
 {
     let members = members(alloc, whole, child.bytes(), event.bytes())?;
@@ -175,7 +201,13 @@ fn put_group<'a>(alloc: Global, whole: &Whole<'a>, child: &'a Text, event: &'a T
 }
 
 /// Puts the groups of a child with the event that a declaration declares behind the others.
-fn put_groups_on<'a>(alloc: Global, whole: &Whole<'a>, child: &'a Text, decl: &'a Decl, groups: &mut Vec<FlatGroup<'a>>) -> Result<(), NoMemory>
+fn put_groups_on<'a>(
+    alloc: Global,
+    whole: &Whole<'a>,
+    child: &'a Text,
+    decl: &'a Decl,
+    groups: &mut Vec<FlatGroup<'a>>,
+) -> Result<(), NoMemory>
     ensures { OnOk result (groups.new.items ≡ groups.old.items ++ machine.groups_on (known.globals whole.now.decls.now) whole.now.inputs.items whole.now.transitions.now child.now decl.now) }
 {
     match decl {
@@ -185,7 +217,12 @@ fn put_groups_on<'a>(alloc: Global, whole: &Whole<'a>, child: &'a Text, decl: &'
 }
 
 /// Puts the groups of a child behind the others.
-fn put_groups_at<'a>(alloc: Global, whole: &Whole<'a>, child: &'a StateDecl, groups: &mut Vec<FlatGroup<'a>>) -> Result<(), NoMemory>
+fn put_groups_at<'a>(
+    alloc: Global,
+    whole: &Whole<'a>,
+    child: &'a StateDecl,
+    groups: &mut Vec<FlatGroup<'a>>,
+) -> Result<(), NoMemory>
     ensures { OnOk result (groups.new.items ≡ groups.old.items ++ machine.groups_at (known.globals whole.now.decls.now) whole.now.inputs.items whole.now.transitions.now whole.now.decls.now child.now) }
 {
     for decl in whole.decls {
@@ -195,7 +232,11 @@ fn put_groups_at<'a>(alloc: Global, whole: &Whole<'a>, child: &'a StateDecl, gro
 }
 
 /// The groups of these children.
-pub fn groups_in<'a>(alloc: Global, whole: &Whole<'a>, children: &'a [StateDecl]) -> Result<Vec<FlatGroup<'a>>, NoMemory>
+pub fn groups_in<'a>(
+    alloc: Global,
+    whole: &Whole<'a>,
+    children: &'a [StateDecl],
+) -> Result<Vec<FlatGroup<'a>>, NoMemory>
     ensures { IfOk result (λ v. v.items ≡ machine.groups_in (known.globals whole.now.decls.now) whole.now.inputs.items whole.now.transitions.now whole.now.decls.now children.now) }
 {
     let mut groups = Vec::new(alloc);

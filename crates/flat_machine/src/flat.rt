@@ -6,8 +6,8 @@ ghost use Rattle.flat_machine.specs.Flat as flat;
 use crate::body::{buses_of, children_of, choices, is_all, transitions_of};
 use crate::lookup::{enumeration, names_input, value_place};
 use rsml_syntax::{
-    Body, Decl, Guard, List, Mention, Operand, Phrase, Relation, Row, Simple, Spec, StateDecl, Sum, Term,
-    Text, Transition,
+    Body, Decl, Guard, List, Mention, Operand, Phrase, Relation, Row, Simple, Spec, StateDecl, Sum,
+    Term, Text, Transition,
 };
 
 /// The greatest number of worlds of a flat specification.

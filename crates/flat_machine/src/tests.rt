@@ -1,8 +1,8 @@
 use crate::analysis::report;
 use crate::flat::is_flat;
 use rsml_syntax::{
-    Body, Cell, Decl, Guard, Initial, List, Mention, NoMemory, Operand, Phrase, Relation, Row, Simple,
-    Spec, StateDecl, Sum, Term, Text, Transition,
+    Body, Cell, Decl, Guard, Initial, List, Mention, NoMemory, Operand, Phrase, Relation, Row,
+    Simple, Spec, StateDecl, Sum, Term, Text, Transition,
 };
 use std::alloc::Global;
 use std::test::Fail;
@@ -161,7 +161,8 @@ fn finds_the_least_world_in_which_none_is_enabled(rt: HostRuntime) -> Result<(),
     let spec = lamp(alloc, transitions(alloc)?)?;
     assert!(rt; is_flat(&spec));
     let told = report(alloc, &spec)?;
-    let expected = b"specification Lamp\ngroups 2\nchain Tick 1\nnone Lamp.On on Tick\n  in Lamp.On | T\n  Lever = Up | T\n  confirmed\nrefused 1\n";
+    let expected =
+        b"specification Lamp\ngroups 2\nchain Tick 1\nnone Lamp.On on Tick\n  in Lamp.On | T\n  Lever = Up | T\n  confirmed\nrefused 1\n";
     assert_eq!(rt; told.text.as_slice(), expected.as_slice());
     assert!(rt; !told.certified);
     Ok(())
@@ -176,7 +177,8 @@ fn finds_the_least_world_in_which_two_are_enabled(rt: HostRuntime) -> Result<(),
     let spec = lamp(alloc, transitions)?;
     assert!(rt; is_flat(&spec));
     let told = report(alloc, &spec)?;
-    let expected = b"specification Lamp\ngroups 2\nchain Tick 1\ntwo Lamp.Off on Tick\n  enabled Lamp 2 stay Off\n  enabled Lamp 5 stay Off\n  confirmed\nrefused 1\n";
+    let expected =
+        b"specification Lamp\ngroups 2\nchain Tick 1\ntwo Lamp.Off on Tick\n  enabled Lamp 2 stay Off\n  enabled Lamp 5 stay Off\n  confirmed\nrefused 1\n";
     assert_eq!(rt; told.text.as_slice(), expected.as_slice());
     assert!(rt; !told.certified);
     Ok(())
@@ -193,7 +195,10 @@ fn certifies_a_basic_state(rt: HostRuntime) -> Result<(), Fail> {
     };
     assert!(rt; is_flat(&spec));
     let told = report(alloc, &spec)?;
-    assert_eq!(rt; told.text.as_slice(), b"specification Still\ngroups 0\ncertified\n".as_slice());
+    assert_eq!(rt;
+        told.text.as_slice(),
+        b"specification Still\ngroups 0\ncertified\n".as_slice()
+    );
     assert!(rt; told.certified);
     Ok(())
 }

@@ -117,7 +117,12 @@ fn begins(children: &[StateDecl], child: &[u8]) -> bool
 
 /// The line of the component's choice, where it is not the first child.
 #[tactic(auto, using(std::proofs::lemmas::List::append_assoc))]
-fn put_choice(out: &mut Vec<u8>, top: &[u8], children: &[StateDecl], child: &[u8]) -> Result<(), NoMemory>
+fn put_choice(
+    out: &mut Vec<u8>,
+    top: &[u8],
+    children: &[StateDecl],
+    child: &[u8],
+) -> Result<(), NoMemory>
     ensures { OnOk result (out.new.items ≡ out.old.items ++ texts.flat_choice_line top.now children.now child.now) }
 {
     if begins(children, child) {
@@ -154,7 +159,12 @@ fn put_cell(out: &mut Vec<u8>, input: &FlatInput<'_>, number: usize) -> Result<(
 }
 
 /// The line of the input of this place.
-fn put_cell_at(out: &mut Vec<u8>, input: &FlatInput<'_>, numbers: &[usize], place: usize) -> Result<(), NoMemory>
+fn put_cell_at(
+    out: &mut Vec<u8>,
+    input: &FlatInput<'_>,
+    numbers: &[usize],
+    place: usize,
+) -> Result<(), NoMemory>
     ensures { OnOk result (out.new.items ≡ out.old.items ++ lists.beside texts.flat_cell_line input.now (slice_get numbers.now place)) }
 {
     match numbers.get(place) {
@@ -192,7 +202,12 @@ fn put_action(out: &mut Vec<u8>, child: &[u8], target: Option<&Text>) -> Result<
 
 /// The line of an enabled member.
 #[tactic(auto, using(std::proofs::lemmas::List::append_assoc))]
-fn put_member(out: &mut Vec<u8>, top: &[u8], child: &[u8], member: &FlatMember<'_>) -> Result<(), NoMemory>
+fn put_member(
+    out: &mut Vec<u8>,
+    top: &[u8],
+    child: &[u8],
+    member: &FlatMember<'_>,
+) -> Result<(), NoMemory>
     ensures { OnOk result (out.new.items ≡ out.old.items ++ texts.member_line top.now child.now member.now) }
 {
     put(out, b"  enabled ")?;
@@ -204,7 +219,13 @@ fn put_member(out: &mut Vec<u8>, top: &[u8], child: &[u8], member: &FlatMember<'
 }
 
 /// The line of a member, if it is enabled.
-fn put_member_if(out: &mut Vec<u8>, top: &[u8], child: &[u8], numbers: &[usize], member: &FlatMember<'_>) -> Result<(), NoMemory>
+fn put_member_if(
+    out: &mut Vec<u8>,
+    top: &[u8],
+    child: &[u8],
+    numbers: &[usize],
+    member: &FlatMember<'_>,
+) -> Result<(), NoMemory>
     ensures { OnOk result (out.new.items ≡ out.old.items ++ texts.member_line_if top.now child.now numbers.now member.now) }
 {
     if is_enabled(member, numbers) {
@@ -214,7 +235,13 @@ fn put_member_if(out: &mut Vec<u8>, top: &[u8], child: &[u8], numbers: &[usize],
 }
 
 /// The lines of the enabled members.
-fn put_members(out: &mut Vec<u8>, top: &[u8], child: &[u8], members: &[FlatMember<'_>], numbers: &[usize]) -> Result<(), NoMemory>
+fn put_members(
+    out: &mut Vec<u8>,
+    top: &[u8],
+    child: &[u8],
+    members: &[FlatMember<'_>],
+    numbers: &[usize],
+) -> Result<(), NoMemory>
     ensures { OnOk result (out.new.items ≡ out.old.items ++ texts.members_text top.now child.now members.now numbers.now) }
 {
     for member in members {
@@ -223,15 +250,31 @@ fn put_members(out: &mut Vec<u8>, top: &[u8], child: &[u8], members: &[FlatMembe
     Ok(())
 }
 
-fn put_enabled(out: &mut Vec<u8>, names: &Names<'_>, group: &FlatGroup<'_>, numbers: &[usize]) -> Result<(), NoMemory>
+fn put_enabled(
+    out: &mut Vec<u8>,
+    names: &Names<'_>,
+    group: &FlatGroup<'_>,
+    numbers: &[usize],
+) -> Result<(), NoMemory>
     ensures { OnOk result (out.new.items ≡ out.old.items ++ texts.flat_enabled_text names.now.top.now group.now numbers.now) }
 {
-    put_members(out, names.top.bytes(), group.child(), group.members(), numbers)
+    put_members(
+        out,
+        names.top.bytes(),
+        group.child(),
+        group.members(),
+        numbers,
+    )
 }
 
 /// The lines of a world.
 #[tactic(auto, using(std::proofs::lemmas::List::append_assoc))]
-fn put_world(out: &mut Vec<u8>, names: &Names<'_>, group: &FlatGroup<'_>, numbers: &[usize]) -> Result<(), NoMemory>
+fn put_world(
+    out: &mut Vec<u8>,
+    names: &Names<'_>,
+    group: &FlatGroup<'_>,
+    numbers: &[usize],
+) -> Result<(), NoMemory>
     ensures { OnOk result (out.new.items ≡ out.old.items ++ texts.flat_world_text names.now.top.now names.now.inputs.now names.now.children.now group.now.child numbers.now) }
 {
     put_choice(out, names.top.bytes(), names.children, group.child())?;
@@ -240,7 +283,12 @@ fn put_world(out: &mut Vec<u8>, names: &Names<'_>, group: &FlatGroup<'_>, number
 
 /// The first line of a finding, which begins with the word.
 #[tactic(auto, using(std::proofs::lemmas::List::append_assoc))]
-fn put_title(out: &mut Vec<u8>, word: &[u8], names: &Names<'_>, group: &FlatGroup<'_>) -> Result<(), NoMemory>
+fn put_title(
+    out: &mut Vec<u8>,
+    word: &[u8],
+    names: &Names<'_>,
+    group: &FlatGroup<'_>,
+) -> Result<(), NoMemory>
     ensures { OnOk result (out.new.items ≡ out.old.items ++ texts.title_text word.now names.now.top.now group.now) }
 {
     put(out, word)?;
@@ -249,7 +297,12 @@ fn put_title(out: &mut Vec<u8>, word: &[u8], names: &Names<'_>, group: &FlatGrou
 }
 
 #[tactic(auto, using(std::proofs::lemmas::List::append_assoc))]
-fn put_missing(out: &mut Vec<u8>, names: &Names<'_>, group: &FlatGroup<'_>, numbers: &[usize]) -> Result<(), NoMemory>
+fn put_missing(
+    out: &mut Vec<u8>,
+    names: &Names<'_>,
+    group: &FlatGroup<'_>,
+    numbers: &[usize],
+) -> Result<(), NoMemory>
     ensures { OnOk result (out.new.items ≡ out.old.items ++ texts.missing_text names.now.top.now names.now.inputs.now names.now.children.now group.now numbers.now) }
 {
     put_title(out, b"none ", names, group)?;
@@ -258,7 +311,12 @@ fn put_missing(out: &mut Vec<u8>, names: &Names<'_>, group: &FlatGroup<'_>, numb
 }
 
 #[tactic(auto, using(std::proofs::lemmas::List::append_assoc))]
-fn put_double(out: &mut Vec<u8>, names: &Names<'_>, group: &FlatGroup<'_>, numbers: &[usize]) -> Result<(), NoMemory>
+fn put_double(
+    out: &mut Vec<u8>,
+    names: &Names<'_>,
+    group: &FlatGroup<'_>,
+    numbers: &[usize],
+) -> Result<(), NoMemory>
     ensures { OnOk result (out.new.items ≡ out.old.items ++ texts.double_text names.now.top.now names.now.inputs.now names.now.children.now group.now numbers.now) }
 {
     put_title(out, b"two ", names, group)?;
@@ -268,7 +326,12 @@ fn put_double(out: &mut Vec<u8>, names: &Names<'_>, group: &FlatGroup<'_>, numbe
 }
 
 /// What is found of a group that is not sound.
-fn put_finding(out: &mut Vec<u8>, names: &Names<'_>, group: &FlatGroup<'_>, verdict: &Verdict) -> Result<(), NoMemory>
+fn put_finding(
+    out: &mut Vec<u8>,
+    names: &Names<'_>,
+    group: &FlatGroup<'_>,
+    verdict: &Verdict,
+) -> Result<(), NoMemory>
     ensures { OnOk result (out.new.items ≡ out.old.items ++ texts.flat_finding names.now.top.now names.now.inputs.now names.now.children.now (group.now, verdict.now)) }
 {
     match verdict {
@@ -278,7 +341,13 @@ fn put_finding(out: &mut Vec<u8>, names: &Names<'_>, group: &FlatGroup<'_>, verd
     }
 }
 
-fn put_finding_at(out: &mut Vec<u8>, names: &Names<'_>, group: &FlatGroup<'_>, verdicts: &[Verdict], place: usize) -> Result<(), NoMemory>
+fn put_finding_at(
+    out: &mut Vec<u8>,
+    names: &Names<'_>,
+    group: &FlatGroup<'_>,
+    verdicts: &[Verdict],
+    place: usize,
+) -> Result<(), NoMemory>
     ensures { OnOk result (out.new.items ≡ out.old.items ++ lists.beside (texts.flat_finding names.now.top.now names.now.inputs.now names.now.children.now) group.now (slice_get verdicts.now place)) }
 {
     match verdicts.get(place) {
@@ -287,7 +356,12 @@ fn put_finding_at(out: &mut Vec<u8>, names: &Names<'_>, group: &FlatGroup<'_>, v
     }
 }
 
-fn put_findings(out: &mut Vec<u8>, names: &Names<'_>, groups: &[FlatGroup<'_>], verdicts: &[Verdict]) -> Result<(), NoMemory>
+fn put_findings(
+    out: &mut Vec<u8>,
+    names: &Names<'_>,
+    groups: &[FlatGroup<'_>],
+    verdicts: &[Verdict],
+) -> Result<(), NoMemory>
     ensures { OnOk result (out.new.items ≡ out.old.items ++ flat_map (texts.flat_finding names.now.top.now names.now.inputs.now names.now.children.now) (zip groups.now verdicts.now)) }
 {
     for (place, group) in groups.iter().enumerate() {

@@ -13,4 +13,4 @@ returns-clause-text c =
 pub returns-clause-certified : goal.returns-clause-certified
 returns-clause-certified c =
     certified_is c.args.spec.now c.requires c.in_ok-verdicts.verdicts.items c.in_ok-verdicts.ensures.found c.count_found.result
-      (c.count_found.ensures ∙ ap (λ vs. length (filter is_found vs)) c.as_slice-2.ensures.value)
+    (c.count_found.ensures ∙ ap (λ vs. length (filter is_found vs)) c.as_slice-2.ensures.value)

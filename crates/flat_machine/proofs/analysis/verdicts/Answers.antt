@@ -14,6 +14,6 @@ returns-clause-right c =
     let gs = c.as_slice-2.result.now in
     let ss = c.as_slice-3.result.now in
     IfOk-weaker c.judge_all.result (λ v. AllZip (IsFoundOf ss) gs v.items) (λ v. AllZip (IsVerdict s) (groups s) (answers s v.items).verdicts)
-      (λ v found. verdicts_are_right s c.requires v.items
-        (are_found s c.as_slice.result.now ss gs v.items (c.as_slice.ensures.value ∙ c.in_ok-whole.ensures.inputs) (c.as_slice-3.ensures.value ∙ c.in_ok-sizes.ensures) (c.as_slice-2.ensures.value ∙ c.in_ok-groups.ensures) found))
-      c.judge_all.ensures
+    (λ v found. verdicts_are_right s c.requires v.items
+    (are_found s c.as_slice.result.now ss gs v.items (c.as_slice.ensures.value ∙ c.in_ok-whole.ensures.inputs) (c.as_slice-3.ensures.value ∙ c.in_ok-sizes.ensures) (c.as_slice-2.ensures.value ∙ c.in_ok-groups.ensures) found))
+    c.judge_all.ensures
