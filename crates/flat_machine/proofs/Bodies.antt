@@ -1,9 +1,9 @@
 -- The children of a body, as a plain list.
-use Rattle.std.proofs.Common.{◌≡◌, ℕ, List, length, ap}
+use Rattle.std.proofs.Common.{◌≡◌, List}
 use Rattle.rsml_syntax.specs.declared.syntax.Bus.{Bus}
 use Rattle.rsml_syntax.specs.declared.syntax.Transition.{Transition}
 use Rattle.rsml_syntax.specs.declared.syntax.StateDecl.{StateDecl}
-use Rattle.rsml_syntax.specs.declared.syntax.Body.{Body, One, All, items_hidden-the_row-StateDecl-0}
+use Rattle.rsml_syntax.specs.declared.syntax.Body.{One, All, items_hidden-the_row-StateDecl-0}
 use Rattle.rsml_syntax.specs.Names.{Name}
 use Rattle.rsml_syntax.specs.Parts.{children_of}
 

@@ -1,11 +1,10 @@
 -- No event of a flat specification is raised by a transition: each chain has one event.
-use Rattle.std.proofs.Common.{◌≡◌, ℕ, zero, suc, ◌+◌, ◌<◌, ◌≤◌, Bool, true, false, cond, ◌&&◌, ◌||◌, not, nat_eq, List, [], ◌∷◌, map, length, filter, Option, Some, None, refl, sym, ap, ◌∙◌, subst, arith}
+use Rattle.std.proofs.Common.{◌≡◌, ℕ, suc, ◌≤◌, Bool, true, false, cond, ◌&&◌, nat_eq, List, [], ◌∷◌, map, length, filter, None, refl, sym, ◌∙◌, subst, arith}
 use Rattle.std.specs.Prelude.{IsTrue, ◌↔◌}
 use Rattle.std.specs.List.{list_any, AllZip}
 use Rattle.std.specs.Cmp.{first_so, second_so}
 use Rattle.std.proofs.lemmas.Bool.{eqb-true, eq-eqb, both_ways, not-true}
 use Rattle.rsml_syntax.specs.declared.syntax.Decl.{Decl}
-use Rattle.rsml_syntax.specs.declared.syntax.Transition.{Transition}
 use Rattle.rsml_syntax.specs.declared.syntax.Body.{Body}
 use Rattle.rsml_syntax.specs.declared.syntax.Spec.{Spec}
 use Rattle.rsml_syntax.specs.Names.{Name, same}
@@ -13,10 +12,10 @@ use Rattle.rsml_syntax.specs.Globals.{globals}
 use Rattle.rsml_syntax.specs.Parts.{transitions_of}
 use Rattle.rsml_meaning.specs.Words.{Instance, same_instance, has, numbered, Each}
 use Rattle.rsml_meaning.specs.Instances.{events}
-use Rattle.rsml_meaning.specs.Transitions.{TransitionInstance, transitions, is_on}
-use Rattle.rsml_meaning.specs.Chains.{is_external, leads, linked, is_chain, begins_with, ends_with, IsChainFrom, IsLength, IsTwiceIn, Loops, Ends, Clash}
-use Rattle.rsml_meaning.specs.Report.{IsLengthAnswer, IsClashAnswer, IsClash, ClashFound, HasLength, externals}
-use Rattle.flat_machine.specs.Flat.{is_flat_body, are_flat_decls}
+use Rattle.rsml_meaning.specs.Transitions.{is_on}
+use Rattle.rsml_meaning.specs.Chains.{is_external, leads, linked, is_chain, begins_with, ends_with, IsLength, Loops, Ends, Clash}
+use Rattle.rsml_meaning.specs.Report.{IsLengthAnswer, IsClashAnswer, externals}
+use Rattle.flat_machine.specs.Flat.{is_flat_body}
 use Rattle.flat_machine.specs.Answered.{one_long, without_clash, without_loop}
 use Rattle.flat_machine.proofs.Basics.{differ, same_self, same_is, and_false, any_none, each_kept, each_more}
 use Rattle.flat_machine.proofs.Shape.{spec_of, lead, transitions_are}

@@ -1,25 +1,20 @@
 -- What the declarations of a flat specification make: events and cells, and no sends, functions or definitions.
-use Rattle.std.proofs.Common.{◌≡◌, ℕ, suc, ◌+◌, ◌-◌, ◌<◌, ◌≤◌, Bool, true, false, cond, ◌&&◌, not, List, [], ◌∷◌, ◌++◌, map, length, flat_map, filter, fold, Option, Some, None, is_none, refl, sym, ap, ◌∙◌, subst, arith, append-nil}
-use Rattle.std.specs.Prelude.{ℤ, pos, ◌-ℤ◌}
+use Rattle.std.proofs.Common.{◌≡◌, ℕ, suc, ◌-◌, Bool, true, false, not, List, [], ◌∷◌, ◌++◌, length, flat_map, fold, Option, Some, None, refl, sym, ap, ◌∙◌, arith}
+use Rattle.std.specs.Prelude.{pos, ◌-ℤ◌}
 use Rattle.std.proofs.lemmas.Int.{ints}
-use Rattle.std.specs.List.{list_all}
 use Rattle.std.specs.Option.{option_map_or}
 use Rattle.std.specs.Cmp.{first_so, second_so}
-use Rattle.rsml_syntax.specs.declared.syntax.Spec.{Spec}
 use Rattle.rsml_syntax.specs.declared.syntax.Decl.{Decl}
 use Rattle.rsml_syntax.specs.declared.syntax.Decl.TheVariants as decl
-use Rattle.rsml_syntax.specs.declared.syntax.Amount.{Amount}
-use Rattle.rsml_syntax.specs.declared.syntax.Initial.{Initial}
-use Rattle.rsml_syntax.specs.declared.world.World.{World}
 use Rattle.rsml_syntax.specs.Names.{Name}
-use Rattle.rsml_syntax.specs.Globals.{Globals, globals, Known, meaning, values_of}
-use Rattle.rsml_meaning.specs.Words.{Instance, at, Each}
+use Rattle.rsml_syntax.specs.Globals.{Globals, Known, meaning, values_of}
+use Rattle.rsml_meaning.specs.Words.{Instance, at}
 use Rattle.rsml_syntax.specs.Thresholds.{type_ends}
-use Rattle.rsml_meaning.specs.Instances.{events_of, instances}
-use Rattle.rsml_meaning.specs.Cells.{InputType, new_type, type_named, no_type, InputCell, new_cell, initial_number, cells_of}
-use Rattle.rsml_meaning.specs.Interfaces.{sends_of, functions_of, FunctionInstance}
+use Rattle.rsml_meaning.specs.Instances.{events_of}
+use Rattle.rsml_meaning.specs.Cells.{new_type, type_named, no_type, InputCell, cells_of}
+use Rattle.rsml_meaning.specs.Interfaces.{sends_of, functions_of}
 use Rattle.rsml_meaning.specs.Truth.{View, learn}
-use Rattle.flat_machine.specs.Flat.{is_none_of, enumeration, is_flat_decl, are_flat_decls}
+use Rattle.flat_machine.specs.Flat.{is_nil, enumeration, is_flat_decl, are_flat_decls}
 use Rattle.flat_machine.specs.Machine.{FlatInput, inputs_of, inputs_in}
 use Rattle.flat_machine.proofs.Basics.{differ}
 
@@ -100,7 +95,7 @@ pub record IsCell (c : InputCell) (x : FlatInput) : Type 0 where
   pub input_is : c.input ≡ at x.name 0
   pub previous_is : c.previous ≡ false
   pub numbers_is : c.numbers ≡ new_type (pos 0, pos (length x.values - 1)) x.values
-  pub has_values : is_none_of x.values ≡ false
+  pub has_values : is_nil x.values ≡ false
 
 -- the lists are as long, and the relation holds at each place
 abbrev pub Beside : {A B : Type 0} → (A → B → Type 0) → List A → List B → Type 0
@@ -115,14 +110,14 @@ not_not false h = refl
 high_of : (n : ℕ) → pos (suc n) -ℤ pos 1 ≡ pos (suc n - 1)
 high_of n = omega (arith, ints)
 
-high : (vs : List Name) → is_none_of vs ≡ false → pos (length vs) -ℤ pos 1 ≡ pos (length vs - 1)
+high : (vs : List Name) → is_nil vs ≡ false → pos (length vs) -ℤ pos 1 ≡ pos (length vs - 1)
 high [] h = differ h
 high (v ∷ vs) h = high_of (length vs)
 
-type_of : (k : Known) → is_none_of (values_of k.decl) ≡ false → new_type (type_ends k) (values_of k.decl) ≡ new_type (pos 0, pos (length (values_of k.decl) - 1)) (values_of k.decl)
+type_of : (k : Known) → is_nil (values_of k.decl) ≡ false → new_type (type_ends k) (values_of k.decl) ≡ new_type (pos 0, pos (length (values_of k.decl) - 1)) (values_of k.decl)
 type_of k = of k.decl k.value
   where
-    of : (d : Decl) (v : Option ℕ) → is_none_of (values_of d) ≡ false → new_type (type_ends (record { decl = d; value = v })) (values_of d) ≡ new_type (pos 0, pos (length (values_of d) - 1)) (values_of d)
+    of : (d : Decl) (v : Option ℕ) → is_nil (values_of d) ≡ false → new_type (type_ends (record { decl = d; value = v })) (values_of d) ≡ new_type (pos 0, pos (length (values_of d) - 1)) (values_of d)
     of (decl.Enumeration _ vs) v h = λ i. new_type (pos 0, high vs h i) vs
     of (decl.Event _ _) v h = differ h
     of (decl.Input _ _ _ _) v h = differ h
@@ -133,17 +128,17 @@ type_of k = of k.decl k.value
     of (decl.Function _ _ _) v h = differ h
     of (decl.Send _ _ _ _) v h = differ h
 
-type_is : (g : Globals) (name : Name) → is_none_of (enumeration g name) ≡ false → type_named g name ≡ new_type (pos 0, pos (length (enumeration g name) - 1)) (enumeration g name)
+type_is : (g : Globals) (name : Name) → is_nil (enumeration g name) ≡ false → type_named g name ≡ new_type (pos 0, pos (length (enumeration g name) - 1)) (enumeration g name)
 type_is g name = by (meaning g name)
   where
-    by : (o : Option Known) → is_none_of (option_map_or (λ k. values_of k.decl) o []) ≡ false → option_map_or (λ k. new_type (type_ends k) (values_of k.decl)) o no_type ≡ new_type (pos 0, pos (length (option_map_or (λ k. values_of k.decl) o []) - 1)) (option_map_or (λ k. values_of k.decl) o [])
+    by : (o : Option Known) → is_nil (option_map_or (λ k. values_of k.decl) o []) ≡ false → option_map_or (λ k. new_type (type_ends k) (values_of k.decl)) o no_type ≡ new_type (pos 0, pos (length (option_map_or (λ k. values_of k.decl) o []) - 1)) (option_map_or (λ k. values_of k.decl) o [])
     by None h = differ h
     by (Some k) h = type_of k h
 
 cell_is : (g : Globals) (d : Decl) → is_flat_decl g d ≡ true → Beside IsCell (cells_of g d) (inputs_of g d)
 cell_is g (decl.Input name (Some n) kind init) h = differ (sym h)
 cell_is g (decl.Input name None kind init) h =
-    let some = not_not (is_none_of (enumeration g kind)) h in
+    let some = not_not (is_nil (enumeration g kind)) h in
     (record { input_is = refl; previous_is = refl; numbers_is = type_is g kind some; has_values = some }, tt)
 cell_is g (decl.Event _ _) h = tt
 cell_is g (decl.Enumeration _ _) h = tt

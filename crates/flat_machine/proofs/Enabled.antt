@@ -1,6 +1,6 @@
 -- Which members of a group are enabled in a world.
-use Rattle.std.proofs.Common.{◌≡◌, ℕ, suc, ◌<◌, ◌≤◌, Bool, true, false, cond, ◌&&◌, ◌||◌, not, nat_eq, nat_lt, List, [], ◌∷◌, ◌++◌, map, length, flat_map, filter, zip, fold, Option, Some, None, refl, sym, ap, ◌∙◌, subst, arith}
-use Rattle.std.specs.Prelude.{pos, if◌then◌else◌, slice_index, slice_index_or, IsTrue, unwrap_or}
+use Rattle.std.proofs.Common.{◌≡◌, ℕ, ◌<◌, Bool, true, false, ◌&&◌, not, List, [], ◌∷◌, map, length, filter, zip, refl, sym, ap, ◌∙◌, subst}
+use Rattle.std.specs.Prelude.{pos, if◌then◌else◌, slice_index, slice_index_or, unwrap_or}
 use Rattle.std.specs.List.{list_any, list_all}
 use Rattle.std.specs.Cmp.{first_so, second_so}
 use Rattle.std.specs.Cmp.Lexicographic.{pointwise}
@@ -9,30 +9,29 @@ use Rattle.std.proofs.lemmas.List.{length-map}
 use Rattle.rsml_syntax.specs.declared.syntax.Spec.{Spec}
 use Rattle.rsml_syntax.specs.declared.syntax.Decl.{Decl}
 use Rattle.rsml_syntax.specs.declared.syntax.Transition.{Transition}
-use Rattle.rsml_syntax.specs.declared.syntax.StateDecl.{StateDecl}
 use Rattle.rsml_syntax.specs.declared.syntax.Body.{Body}
 use Rattle.rsml_syntax.specs.declared.world.World.{World}
 use Rattle.rsml_syntax.specs.Names.{Name, same}
 use Rattle.rsml_syntax.specs.Globals.{Globals, globals}
-use Rattle.rsml_syntax.specs.Parts.{children_of, transitions_of}
-use Rattle.rsml_meaning.specs.Words.{Path, at, first_some, child_path, is_prefix, is_proper_prefix, numbered, Each}
+use Rattle.rsml_syntax.specs.Parts.{transitions_of}
+use Rattle.rsml_meaning.specs.Words.{at, first_some, child_path, is_prefix, is_proper_prefix, numbered, Each}
 use Rattle.rsml_meaning.specs.Instances.{Component, components}
 use Rattle.rsml_meaning.specs.Active.{active, leads_on}
 use Rattle.rsml_meaning.specs.Worlds.{IsWorld, is_choice, held}
-use Rattle.rsml_meaning.specs.Cells.{InputCell, cells, own_cells, is_of}
+use Rattle.rsml_meaning.specs.Cells.{cells, own_cells, is_of}
 use Rattle.rsml_meaning.specs.Truth.{View, view, bare, within, guard}
-use Rattle.rsml_meaning.specs.Transitions.{TransitionInstance, transitions, is_on, is_enabled, line}
-use Rattle.rsml_meaning.specs.Groups.{Group, state, Member, transition, enabled, members, meets, reacts_inside, enabled_count}
-use Rattle.flat_machine.specs.Flat.{is_flat_transition, are_flat_transitions, is_flat_guard, is_flat_body, are_flat_decls}
-use Rattle.flat_machine.specs.Machine.{Numbers, FlatInput, FlatMember, FlatGroup, inputs_in, input_place, rows_of, guard_truth, members_from, enabled_in}
+use Rattle.rsml_meaning.specs.Transitions.{is_on, is_enabled}
+use Rattle.rsml_meaning.specs.Groups.{state, transition, enabled, members, meets, reacts_inside, enabled_count}
+use Rattle.flat_machine.specs.Flat.{is_flat_transition, is_flat_body, are_flat_decls}
+use Rattle.flat_machine.specs.Machine.{Numbers, FlatInput, FlatMember, inputs_in, input_place, rows_of, guard_truth, members_from, enabled_in}
 use Rattle.flat_machine.specs.Search.{sizes, AreNumbers}
 use Rattle.flat_machine.proofs.Basics.{differ, same_is, and_true, and_false, filter-map, filter_same, any_none, each_kept, each_more, each_from_all}
-use Rattle.flat_machine.proofs.Declared.{IsCell, Beside, cells_are}
+use Rattle.flat_machine.proofs.Declared.{cells_are}
 use Rattle.flat_machine.proofs.Previous.{guard_of, transitions_of_body}
 use Rattle.flat_machine.proofs.Shape.{top_path, child_at, lead, spec_of, transitions_are, cells_are_own, view_is_bare}
 use Rattle.flat_machine.proofs.Guards.{guard_is, input_number}
-use Rattle.flat_machine.proofs.Kept.{kept_from, is_kept, member_of, members_are, each_numbered, same_top, child_prefix, line_is, group_of}
-use Rattle.flat_machine.proofs.Numbers.{AreCells, numbers_of_cells}
+use Rattle.flat_machine.proofs.Kept.{kept_from, is_kept, member_of, members_are, each_numbered, same_top, child_prefix, line_is}
+use Rattle.flat_machine.proofs.Numbers.{numbers_of_cells}
 
 -- The one component, with children of these names.
 pub record HasComponent (s : Spec) (top : Name) (names : List Name) : Type 0 where

@@ -1,8 +1,8 @@
 -- When the guard of a flat transition is true.
-use Rattle.std.proofs.Common.{◌≡◌, ℕ, zero, suc, ◌+◌, ◌<◌, Bool, true, false, cond, ◌&&◌, ◌||◌, not, nat_eq, List, [], ◌∷◌, ◌++◌, map, length, fold, zip, Option, Some, None, is_none, is_some, MatchOption, unwrap_or, refl, sym, ap, ◌∙◌, subst, arith}
+use Rattle.std.proofs.Common.{◌≡◌, ℕ, suc, Bool, true, false, ◌&&◌, ◌||◌, not, List, [], ◌∷◌, map, fold, zip, Option, Some, None, is_some, MatchOption, unwrap_or, refl, sym, ap, ◌∙◌, arith}
 use Rattle.std.specs.Prelude.{ℤ, pos, ◌+ℤ◌, if◌then◌else◌, ◌==◌, slice_index, slice_index_or, ⊤}
 use Rattle.std.specs.Ordering.{int_eq}
-use Rattle.std.specs.List.{list_any, list_all}
+use Rattle.std.specs.List.{list_any}
 use Rattle.std.specs.Option.{option_map_or, option_and_then}
 use Rattle.std.specs.Cmp.{first_so, second_so}
 use Rattle.std.proofs.lemmas.Int.{ints}
@@ -25,15 +25,15 @@ use Rattle.rsml_syntax.specs.declared.syntax.Guard.{Guard}
 use Rattle.rsml_syntax.specs.declared.syntax.Guard.TheVariants as guards
 use Rattle.rsml_syntax.specs.Names.{Name, same}
 use Rattle.rsml_syntax.specs.Globals.{Globals, globals, Known, meaning, number, number_of}
-use Rattle.rsml_syntax.specs.Tables.{TableRow, allows, column, width, below, table_truth}
+use Rattle.rsml_syntax.specs.Tables.{allows, column, width, below}
 use Rattle.rsml_syntax.specs.Comparisons.{Reading}
 use Rattle.rsml_syntax.specs.Uses.{is_input}
-use Rattle.rsml_meaning.specs.Words.{Instance, at, same_instance, first_some}
+use Rattle.rsml_meaning.specs.Words.{at, same_instance, first_some}
 use Rattle.rsml_meaning.specs.Worlds.{held, is_cell}
 use Rattle.rsml_meaning.specs.Cells.{InputCell}
-use Rattle.rsml_meaning.specs.Truth.{View, within, mentioned, operand, term, sum, simple, phrase, row_truth, table, guard}
+use Rattle.rsml_meaning.specs.Truth.{View, mentioned, operand, term, sum, simple, phrase, row_truth, guard}
 use Rattle.flat_machine.specs.Flat.{plain, plain_terms, plain_operand, plain_mention, names_input, names_value, value_place, is_input_sum, is_value_sum, is_flat_simple, is_flat_phrase, are_flat_rows, is_flat_guard}
-use Rattle.flat_machine.specs.Machine.{Numbers, FlatInput, FlatRow, input_place, name_of_sum, left_of, right_of, new_row, rows_of, row_allows, column_truth, width_of, rows_truth, guard_truth}
+use Rattle.flat_machine.specs.Machine.{Numbers, FlatInput, input_place, name_of_sum, left_of, right_of, new_row, rows_of, column_truth, width_of, guard_truth}
 use Rattle.flat_machine.specs.Search.{sizes, AreNumbers}
 use Rattle.flat_machine.proofs.Basics.{differ, and_true}
 use Rattle.flat_machine.proofs.Declared.{IsCell, Beside}

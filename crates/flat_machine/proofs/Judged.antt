@@ -1,33 +1,30 @@
 -- What is found of a group of a flat specification is right.
-use Rattle.std.proofs.Common.{◌≡◌, ℕ, suc, ◌<◌, ◌≤◌, Bool, true, false, ◌&&◌, List, [], ◌∷◌, ◌++◌, map, length, refl, sym, ap, ◌∙◌, subst, arith}
-use Rattle.std.specs.Prelude.{pos, slice_index_or, IsTrue, ◌==◌, nat_le}
+use Rattle.std.proofs.Common.{◌≡◌, ℕ, ◌<◌, ◌≤◌, true, ◌&&◌, List, [], ◌∷◌, map, length, refl, sym, ap, ◌∙◌, subst}
+use Rattle.std.specs.Prelude.{pos, slice_index_or, IsTrue}
 use Rattle.std.specs.Cmp.Lexicographic.{pointwise}
 use Rattle.std.proofs.lemmas.Bool.{lt-ltb, leb-true, le-leb, eqb-true, eq-eqb, both_ways}
 use Rattle.rsml_syntax.specs.declared.syntax.Decl.{Decl}
 use Rattle.rsml_syntax.specs.declared.syntax.StateDecl.{StateDecl}
 use Rattle.rsml_syntax.specs.declared.syntax.Body.{Body}
-use Rattle.rsml_syntax.specs.declared.syntax.Transition.{Transition}
 use Rattle.rsml_syntax.specs.declared.syntax.Spec.{Spec}
 use Rattle.rsml_syntax.specs.declared.world.World.{World}
 use Rattle.rsml_syntax.specs.Names.{Name, same}
 use Rattle.rsml_syntax.specs.Globals.{Globals, globals}
 use Rattle.rsml_syntax.specs.Parts.{children_of, transitions_of}
-use Rattle.rsml_meaning.specs.Words.{at}
-use Rattle.rsml_meaning.specs.Instances.{components}
-use Rattle.rsml_meaning.specs.Worlds.{IsWorld, IsBefore, is_choice, is_world}
-use Rattle.rsml_meaning.specs.Cells.{cells, own_cells, is_of}
+use Rattle.rsml_meaning.specs.Worlds.{IsWorld, IsBefore, is_choice}
+use Rattle.rsml_meaning.specs.Cells.{own_cells, is_of}
 use Rattle.rsml_meaning.specs.Truth.{view}
-use Rattle.rsml_meaning.specs.Groups.{Group, meets, enabled_count, Sound}
-use Rattle.rsml_meaning.specs.Findings.{EnablesIn, EnablesNone, EnablesTwo, IsLeast, IsVerdict}
+use Rattle.rsml_meaning.specs.Groups.{meets, enabled_count, Sound}
+use Rattle.rsml_meaning.specs.Findings.{EnablesIn, IsLeast, IsVerdict}
 use Rattle.flat_machine.specs.Flat.{is_flat_body, are_flat_decls}
-use Rattle.flat_machine.specs.Machine.{Numbers, FlatInput, FlatMember, FlatGroup, inputs_in, members_from, enabled_in}
-use Rattle.flat_machine.specs.Search.{sizes, AreNumbers, AreBefore, is_failure, fails, Passes, IsLeastFrom, IsFound}
+use Rattle.flat_machine.specs.Machine.{Numbers, FlatInput, FlatGroup, inputs_in, members_from, enabled_in}
+use Rattle.flat_machine.specs.Search.{sizes, AreNumbers, is_failure, fails, Passes, IsLeastFrom, IsFound}
 use Rattle.flat_machine.specs.Answered.{child_place, world_of, told_of}
 use Rattle.flat_machine.specs.declared.search.Failure.{Failure}
 use Rattle.flat_machine.specs.declared.search.Failure.TheVariants.{Missing, Double}
 use Rattle.flat_machine.specs.declared.verdict.Verdict.{Verdict}
 use Rattle.flat_machine.specs.declared.verdict.Verdict.TheVariants as verdicts
-use Rattle.flat_machine.proofs.Declared.{IsCell, Beside, cells_are}
+use Rattle.flat_machine.proofs.Declared.{cells_are}
 use Rattle.flat_machine.proofs.Shape.{spec_of, cells_are_own}
 use Rattle.flat_machine.proofs.Kept.{group_of}
 use Rattle.flat_machine.proofs.Numbers.{cells_of_numbers}

@@ -1,20 +1,18 @@
 -- The transitions of a group, and its members.
-use Rattle.std.proofs.Common.{◌≡◌, ℕ, suc, Bool, true, false, cond, ◌&&◌, ◌||◌, not, nat_eq, nat_lt, List, [], ◌∷◌, ◌++◌, map, length, flat_map, filter, refl, sym, ap, ◌∙◌}
+use Rattle.std.proofs.Common.{◌≡◌, ℕ, suc, Bool, true, false, cond, ◌&&◌, ◌||◌, not, List, [], ◌∷◌, ◌++◌, map, flat_map, filter, refl, sym, ap, ◌∙◌}
 use Rattle.std.specs.Prelude.{if◌then◌else◌}
-use Rattle.std.specs.List.{list_any, list_all}
-use Rattle.std.specs.Cmp.{first_so, second_so}
+use Rattle.std.specs.List.{list_any}
 use Rattle.rsml_syntax.specs.declared.syntax.Decl.{Decl}
 use Rattle.rsml_syntax.specs.declared.syntax.Decl.TheVariants as decl
 use Rattle.rsml_syntax.specs.declared.syntax.Transition.{Transition}
-use Rattle.rsml_syntax.specs.declared.syntax.StateDecl.{StateDecl}
 use Rattle.rsml_syntax.specs.Names.{Name, same}
 use Rattle.rsml_syntax.specs.Globals.{Globals}
-use Rattle.rsml_meaning.specs.Words.{Instance, Path, at, same_instance, is_prefix, is_proper_prefix, same_path, numbered, numbered_from, Each}
-use Rattle.rsml_meaning.specs.Transitions.{TransitionInstance, is_on, is_from}
+use Rattle.rsml_meaning.specs.Words.{Instance, Path, at, same_instance, is_prefix, same_path, numbered, numbered_from, Each}
+use Rattle.rsml_meaning.specs.Transitions.{is_on, is_from}
 use Rattle.rsml_meaning.specs.Groups.{Group, state}
-use Rattle.flat_machine.specs.Flat.{is_none_of, is_flat_transition, are_flat_transitions}
-use Rattle.flat_machine.specs.Machine.{FlatInput, FlatMember, FlatGroup, new_member, is_member, members_from, new_group, group_if, group_at, groups_on, groups_at, groups_in}
-use Rattle.flat_machine.proofs.Basics.{differ, same_self, same_is, and_true, and_false, filter-map, filter_same, filter_none, any_none}
+use Rattle.flat_machine.specs.Flat.{is_nil}
+use Rattle.flat_machine.specs.Machine.{FlatInput, FlatMember, FlatGroup, new_member, is_member, members_from, group_if, groups_on}
+use Rattle.flat_machine.proofs.Basics.{same_self, same_is, and_true, and_false, filter-map, filter_same, any_none}
 use Rattle.flat_machine.proofs.Declared.{event_of}
 use Rattle.flat_machine.proofs.Shape.{top_path, child_at, lead}
 
@@ -99,11 +97,11 @@ line_is top child event n ts =
 
 -- some transition is from the child on the event where there are members
 any_from : (g : Globals) (xs : List FlatInput) (top child event : Name) (n : ℕ) (ts : List Transition) →
-    list_any (is_from (child_at top child) (at event 0)) (map (lead top) (numbered_from n ts)) ≡ not (is_none_of (members_from g xs child event n ts))
+    list_any (is_from (child_at top child) (at event 0)) (map (lead top) (numbered_from n ts)) ≡ not (is_nil (members_from g xs child event n ts))
 any_from g xs top child event n [] = refl
 any_from g xs top child event n (t ∷ ts) = (λ i. from_is top child event (n, t) i || any_from g xs top child event (suc n) ts i) ∙ cases (is_member child event t)
   where
-    cases : (b : Bool) → (b || not (is_none_of (members_from g xs child event (suc n) ts))) ≡ not (is_none_of (if b then new_member g xs n t ∷ members_from g xs child event (suc n) ts else members_from g xs child event (suc n) ts))
+    cases : (b : Bool) → (b || not (is_nil (members_from g xs child event (suc n) ts))) ≡ not (is_nil (if b then new_member g xs n t ∷ members_from g xs child event (suc n) ts else members_from g xs child event (suc n) ts))
     cases true = refl
     cases false = refl
 
@@ -118,7 +116,7 @@ module _ (g : Globals) (xs : List FlatInput) (top : Name) (ts : List Transition)
   abbrev has_member : Instance → Bool
   has_member e = list_any (is_from path e) (map (lead top) (numbered ts))
 
-  one_event : (event : Name) (rest : List Instance) (groups : List FlatGroup) (b : Bool) (ms : List FlatMember) → b ≡ not (is_none_of ms) → map (state path) rest ≡ map (group_of top) groups →
+  one_event : (event : Name) (rest : List Instance) (groups : List FlatGroup) (b : Bool) (ms : List FlatMember) → b ≡ not (is_nil ms) → map (state path) rest ≡ map (group_of top) groups →
       map (state path) (cond b (at event 0 ∷ rest) rest) ≡ map (group_of top) (group_if child event ms ++ groups)
   one_event event rest groups b [] e h = ap (λ c. map (state path) (cond c (at event 0 ∷ rest) rest)) e ∙ h
   one_event event rest groups b (m ∷ ms) e h = ap (λ c. map (state path) (cond c (at event 0 ∷ rest) rest)) e ∙ ap (λ r. state path (at event 0) ∷ r) h

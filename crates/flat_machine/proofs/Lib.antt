@@ -4,7 +4,7 @@ pub mod Chains
 pub mod Columns
 pub mod Declared
 pub mod Enabled
-pub mod Flats
+pub mod ExactlyOne
 pub mod Guards
 pub mod Judged
 pub mod Kept

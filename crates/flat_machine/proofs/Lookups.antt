@@ -1,8 +1,8 @@
 -- What a name is, declaration by declaration.
 use Rattle.std.proofs.lemmas.List.{at_drop_more}
-use Rattle.std.proofs.Common.{◌≡◌, ℕ, zero, suc, ◌+◌, ◌<◌, Bool, true, false, cond, List, [], ◌∷◌, ◌++◌, length, drop, get_or, flat_map, Option, Some, None, is_some, MatchOption, subst, refl, sym, ap, ◌∙◌, arith, slice_get, append_assoc, length-append}
+use Rattle.std.proofs.Common.{◌≡◌, ℕ, suc, ◌+◌, ◌<◌, Bool, true, false, cond, List, [], ◌∷◌, ◌++◌, length, drop, get_or, flat_map, Option, Some, None, is_some, MatchOption, subst, refl, sym, ap, ◌∙◌, arith, slice_get, append_assoc, length-append}
 use Rattle.std.specs.List.{position_from}
-use Rattle.std.specs.Option.{option_map, option_map_or, option_or}
+use Rattle.std.specs.Option.{option_map, option_map_or}
 use Rattle.rsml_syntax.specs.declared.syntax.Decl.{Decl}
 use Rattle.rsml_syntax.specs.declared.syntax.Decl.TheVariants as decl
 use Rattle.std.specs.Prelude.{⊤}
@@ -10,7 +10,7 @@ use Rattle.rsml_syntax.specs.Uses.{is_input}
 use Rattle.rsml_meaning.specs.Words.{Each}
 use Rattle.flat_machine.proofs.Basics.{differ, each_append}
 use Rattle.rsml_syntax.specs.Names.{Name, same, place_of}
-use Rattle.rsml_syntax.specs.Globals.{Known, Globals, globals, meaning, name_of, values_of, known_by, names_of, known_values}
+use Rattle.rsml_syntax.specs.Globals.{Known, globals, meaning, name_of, values_of, known_by, names_of, known_values}
 
 -- the item beside the first name that passes
 abbrev seek : {A B : Type 0} → (A → Bool) → List A → List B → Option B

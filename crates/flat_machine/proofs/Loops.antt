@@ -1,5 +1,5 @@
 -- The step and the end of a loop that puts a list for each item behind what is there.
-use Rattle.std.proofs.Common.{◌≡◌, ℕ, zero, suc, ◌+◌, ◌<◌, ◌≤◌, Bool, true, false, cond, List, [], ◌∷◌, ◌++◌, length, take, drop, get_or, subst, slice_get, flat_map, filter, zip, Option, Some, None, refl, sym, ap, ◌∙◌, append_assoc, append-nil, add-one, arith}
+use Rattle.std.proofs.Common.{◌≡◌, ℕ, zero, suc, ◌+◌, ◌<◌, ◌≤◌, Bool, true, false, cond, List, [], ◌∷◌, ◌++◌, length, take, drop, get_or, subst, slice_get, flat_map, filter, zip, refl, sym, ap, ◌∙◌, append_assoc, append-nil, add-one}
 use Rattle.std.specs.Prelude.{if◌then◌else◌}
 use Rattle.flat_machine.specs.Beside.{beside}
 use Rattle.std.proofs.lemmas.List.{at_drop_more, at_drop_all, take_more}

@@ -1,12 +1,12 @@
 -- The cells of a world are the numbers of the inputs' values.
-use Rattle.std.proofs.Common.{◌≡◌, ℕ, suc, ◌-◌, ◌<◌, ◌≤◌, Bool, true, false, ◌&&◌, nat_le, List, [], ◌∷◌, map, length, refl, sym, ap, ◌∙◌, subst, arith}
+use Rattle.std.proofs.Common.{◌≡◌, ℕ, ◌-◌, ◌<◌, true, false, ◌&&◌, List, [], ◌∷◌, map, length, refl, sym, ◌∙◌, arith}
 use Rattle.std.specs.Prelude.{ℤ, pos, negsuc, int_le}
 use Rattle.std.specs.Cmp.{first_so, second_so}
 use Rattle.std.specs.Cmp.Lexicographic.{pointwise}
 use Rattle.std.proofs.lemmas.Bool.{leb-true, le-leb}
 use Rattle.rsml_syntax.specs.Names.{Name}
 use Rattle.rsml_meaning.specs.Cells.{InputCell, is_of}
-use Rattle.flat_machine.specs.Flat.{is_none_of}
+use Rattle.flat_machine.specs.Flat.{is_nil}
 use Rattle.flat_machine.specs.Machine.{Numbers, FlatInput}
 use Rattle.flat_machine.specs.Search.{sizes, AreNumbers}
 use Rattle.flat_machine.proofs.Basics.{differ}
@@ -18,7 +18,7 @@ record IsNumber (size : ℕ) (z : ℤ) : Type 0 where
   is : z ≡ pos number
   small : number < size
 
-filled : (vs : List Name) → is_none_of vs ≡ false → 0 < length vs
+filled : (vs : List Name) → is_nil vs ≡ false → 0 < length vs
 filled [] h = differ h
 filled (v ∷ vs) h = omega arith
 

@@ -1,5 +1,5 @@
 -- The least world of a child.
-use Rattle.std.proofs.Common.{◌≡◌, ℕ, zero, suc, ◌+◌, ◌<◌, ◌≤◌, ◌⊎◌, inl, inr, Bool, true, false, cond, ◌&&◌, ◌||◌, nat_lt, nat_eq, List, [], ◌∷◌, map, length, refl, sym, ap, ◌∙◌, subst, arith}
+use Rattle.std.proofs.Common.{◌≡◌, ℕ, zero, suc, ◌<◌, ◌≤◌, ◌⊎◌, inl, inr, Bool, true, false, cond, ◌||◌, nat_lt, List, [], ◌∷◌, map, length, refl, sym, ◌∙◌, arith}
 use Rattle.std.specs.Prelude.{pos, if◌then◌else◌, slice_index_or, ◌==◌}
 use Rattle.std.specs.List.{list_any}
 use Rattle.std.proofs.Math.Dec.{eqb-suc-zero}
@@ -7,11 +7,11 @@ use Rattle.std.specs.Ordering.{nat_cmp, int_cmp, ordering_then}
 use Rattle.std.specs.Cmp.Lexicographic.{slice_cmp}
 use Rattle.std.specs.declared.cmp.Ordering.{Ordering}
 use Rattle.std.specs.declared.cmp.Ordering.TheVariants.{Less, Equal, Greater}
-use Rattle.std.proofs.lemmas.Bool.{cases_lt, cases_order, ltb-true, ltb-false, lt-ltb, le-ltb, eq-eqb, eqb-true}
+use Rattle.std.proofs.lemmas.Bool.{ltb-true, ltb-false, le-ltb}
 use Rattle.rsml_syntax.specs.declared.syntax.StateDecl.{StateDecl}
 use Rattle.rsml_syntax.specs.declared.world.World.{World}
 use Rattle.rsml_syntax.specs.Names.{Name, same}
-use Rattle.rsml_meaning.specs.Worlds.{world_cmp, IsBefore}
+use Rattle.rsml_meaning.specs.Worlds.{IsBefore}
 use Rattle.flat_machine.specs.Machine.{Numbers}
 use Rattle.flat_machine.specs.Search.{AreNumbers, AreBefore}
 use Rattle.flat_machine.specs.FlatTexts.{begins}

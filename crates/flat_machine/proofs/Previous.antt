@@ -1,6 +1,6 @@
 -- No sum of a flat specification names a previous input.
-use Rattle.std.proofs.Common.{◌≡◌, ℕ, ◌+◌, length, Bool, true, false, cond, ◌&&◌, ◌||◌, not, List, [], ◌∷◌, ◌++◌, map, flat_map, filter, Option, Some, None, is_none, is_some, refl, sym, ap, ◌∙◌}
-use Rattle.std.specs.List.{list_any, list_all}
+use Rattle.std.proofs.Common.{◌≡◌, ℕ, ◌+◌, length, Bool, true, false, cond, ◌||◌, not, List, [], ◌∷◌, ◌++◌, flat_map, Option, Some, None, is_none, is_some, refl, sym, ◌∙◌}
+use Rattle.std.specs.List.{list_any}
 use Rattle.std.specs.Option.{option_map_or}
 use Rattle.std.specs.Cmp.{first_so, second_so}
 use Rattle.rsml_syntax.specs.declared.syntax.Spec.{Spec}
@@ -20,18 +20,16 @@ use Rattle.rsml_syntax.specs.declared.syntax.Row.{Row}
 use Rattle.rsml_syntax.specs.declared.syntax.Guard.{Guard}
 use Rattle.rsml_syntax.specs.declared.syntax.Guard.TheVariants as guards
 use Rattle.rsml_syntax.specs.declared.syntax.Transition.{Transition}
-use Rattle.rsml_syntax.specs.declared.syntax.StateDecl.{StateDecl}
 use Rattle.rsml_syntax.specs.declared.syntax.Body.{Body, Basic, One', All', Row_of-StateDecl, end_of-StateDecl, more_of-StateDecl, items-the_row-StateDecl}
 use Rattle.rsml_syntax.specs.Names.{Name}
 use Rattle.rsml_syntax.specs.Globals.{Globals}
 use Rattle.rsml_syntax.specs.declared.syntax.Amount.{Amount}
-use Rattle.rsml_syntax.specs.Parts.{Part, Declared, Opens, Closes, parts, declared, inside, row_parts, placed, nearer, top_of, State, transitions_of, children_of, buses_of}
+use Rattle.rsml_syntax.specs.Parts.{Part, Opens, Closes, declared, inside, row_parts, placed, nearer, top_of, transitions_of, children_of, buses_of}
 use Rattle.rsml_syntax.specs.Names.{is_in}
 use Rattle.rsml_syntax.specs.Globals.{names_of}
 use Rattle.rsml_syntax.specs.Written.{simple_of, sums_in, sums_of_row, sums_of_guard, guards_of, sums_of}
 use Rattle.rsml_syntax.specs.Previous.{sums_of_part, is_previous, names_previous}
-use Rattle.rsml_meaning.specs.Words.{Each}
-use Rattle.flat_machine.specs.Flat.{plain, plain_terms, plain_operand, is_input_sum, is_value_sum, names_input, names_value, is_flat_simple, is_flat_phrase, are_flat_rows, is_flat_guard, is_flat_transition, are_flat_transitions, is_flat_decl, are_flat_decls, is_flat_child, are_flat_children, is_flat_body, is_flat_target, is_none_of, is_all}
+use Rattle.flat_machine.specs.Flat.{plain, plain_terms, plain_operand, is_input_sum, is_value_sum, names_input, names_value, is_flat_simple, is_flat_phrase, are_flat_rows, is_flat_guard, is_flat_transition, are_flat_transitions, is_flat_decl, are_flat_decls, is_flat_child, are_flat_children, is_flat_body, is_flat_target, is_nil, is_all}
 use Rattle.flat_machine.proofs.Basics.{differ}
 
 -- a sum does not name this input as previous
@@ -100,7 +98,7 @@ guard_silent g name (guards.Table rows) h = rows_silent g name rows h
 
 -- the guard of a flat transition is flat
 pub guard_of : (g : Globals) (t : Transition) → is_flat_transition g t ≡ true → is_flat_guard g t.guard ≡ true
-guard_of g t h = second_so (is_none_of t.raises) _ (second_so (is_flat_target t.target) _ (second_so (is_none t.trigger.index) _ h))
+guard_of g t h = second_so (is_nil t.raises) _ (second_so (is_flat_target t.target) _ (second_so (is_none t.trigger.index) _ h))
 
 transitions_silent : (g : Globals) (name : Name) (ts : List Transition) → are_flat_transitions g ts ≡ true → are_silent name (flat_map (λ (t : Transition). sums_of_guard t.guard) ts) ≡ false
 transitions_silent g name [] h = refl
@@ -147,7 +145,7 @@ inside_silent g name (One' _ _ row _ _) h rest e = row_silent true None [] name 
 inside_silent g name (All' _ _) h rest e = differ (sym h)
 
 pub transitions_of_body : (g : Globals) (b : Body) → is_flat_body g b ≡ true → are_flat_transitions g (transitions_of b) ≡ true
-transitions_of_body g b h = second_so (is_none_of (buses_of b)) _ (second_so (are_flat_children (children_of b)) _ (second_so (not (is_all b)) _ h))
+transitions_of_body g b h = second_so (is_nil (buses_of b)) _ (second_so (are_flat_children (children_of b)) _ (second_so (not (is_all b)) _ h))
 
 pub no_previous : (s : Spec) (g : Globals) → are_flat_decls g s.decls ≡ true → is_flat_body g s.body ≡ true → (name : Name) → names_previous s name ≡ false
 no_previous s g ds b name =

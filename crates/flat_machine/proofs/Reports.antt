@@ -1,30 +1,23 @@
 -- The report on a flat specification.
-use Rattle.std.proofs.Common.{◌≡◌, ℕ, suc, ◌+◌, ◌<◌, ◌≤◌, ◌⊎◌, inl, inr, Bool, true, false, cond, ◌&&◌, ◌||◌, not, List, [], ◌∷◌, ◌++◌, map, length, flat_map, filter, zip, Option, Some, None, is_some, refl, sym, ap, ◌∙◌, subst, arith, append-nil, append_assoc}
-use Rattle.std.specs.Prelude.{pos, if◌then◌else◌, ◌==◌, IsTrue, ◌↔◌, codes, decimal}
-use Rattle.std.specs.Fmt.{digits}
-use Rattle.std.specs.List.{list_any, AllZip, items_where_true}
-use Rattle.std.specs.Cmp.{first_so, second_so}
-use Rattle.std.proofs.lemmas.Bool.{or_right, or_left, eqb-true, eq-eqb}
-use Rattle.std.proofs.lemmas.List.{length-map}
+use Rattle.std.proofs.Common.{◌≡◌, ℕ, ◌+◌, Bool, true, false, cond, List, [], ◌∷◌, ◌++◌, map, length, flat_map, filter, zip, refl, sym, ap, ◌∙◌, arith, append-nil}
+use Rattle.std.specs.List.{list_any, AllZip}
+use Rattle.std.proofs.lemmas.Bool.{or_right, or_left}
 use Rattle.rsml_syntax.specs.declared.syntax.Decl.{Decl}
 use Rattle.rsml_syntax.specs.declared.syntax.Decl.TheVariants as decl
-use Rattle.rsml_syntax.specs.declared.syntax.Mention.{Mention}
 use Rattle.rsml_syntax.specs.declared.syntax.Transition.{Transition}
 use Rattle.rsml_syntax.specs.declared.syntax.StateDecl.{StateDecl}
-use Rattle.rsml_syntax.specs.declared.syntax.Body.{Body, Basic, One', All'}
+use Rattle.rsml_syntax.specs.declared.syntax.Body.{Body}
 use Rattle.rsml_syntax.specs.declared.syntax.Spec.{Spec}
-use Rattle.rsml_syntax.specs.declared.world.World.{World}
 use Rattle.rsml_syntax.specs.Names.{Name, same}
 use Rattle.rsml_syntax.specs.Globals.{Globals, globals}
 use Rattle.rsml_syntax.specs.Parts.{children_of, transitions_of}
-use Rattle.rsml_meaning.specs.Words.{Instance, Path, at, same_instance, numbered, Each}
-use Rattle.rsml_meaning.specs.Instances.{State, states, events, row_names, new_component}
-use Rattle.rsml_meaning.specs.Transitions.{transitions, is_from}
-use Rattle.rsml_meaning.specs.Groups.{Group, state, groups, state_groups, send_groups, function, Sound, enabled_count}
-use Rattle.rsml_meaning.specs.Interfaces.{sends, functions}
-use Rattle.rsml_meaning.specs.Findings.{Verdict, sound, none, two, IsVerdict}
+use Rattle.rsml_meaning.specs.Words.{Path, numbered, Each}
+use Rattle.rsml_meaning.specs.Instances.{State}
+use Rattle.rsml_meaning.specs.Transitions.{is_from}
+use Rattle.rsml_meaning.specs.Groups.{Group, state, groups, state_groups, send_groups, function, Sound}
+use Rattle.rsml_meaning.specs.Findings.{IsVerdict}
 use Rattle.flat_machine.specs.Flat.{is_flat_body, are_flat_decls}
-use Rattle.flat_machine.specs.Machine.{FlatInput, FlatMember, FlatGroup, inputs_in, members_from, new_group, group_if, group_at, groups_on, groups_at, groups_in, flat_groups}
+use Rattle.flat_machine.specs.Machine.{FlatInput, FlatMember, FlatGroup, inputs_in, members_from, group_if, groups_on, groups_at, flat_groups}
 use Rattle.flat_machine.specs.Search.{sizes, IsFoundOf}
 use Rattle.flat_machine.specs.FlatTexts.{flat_finding, is_found}
 use Rattle.flat_machine.specs.Answered.{told, told_of}
@@ -32,13 +25,13 @@ use Rattle.flat_machine.specs.declared.verdict.Verdict.{Verdict as Judgement}
 use Rattle.flat_machine.specs.declared.verdict.Verdict.TheVariants as verdicts
 use Rattle.flat_machine.proofs.Basics.{differ, same_self, filter_none, flat_map-map, flat_map_same, each_append}
 use Rattle.flat_machine.proofs.Declared.{event_of}
-use Rattle.flat_machine.proofs.Shape.{top_path, child_at, basic, lead, spec_of, states_are, component_is, transitions_are, sends_are, functions_are, events_are_declared, names_are}
+use Rattle.flat_machine.proofs.Shape.{top_path, child_at, basic, lead, spec_of, states_are, transitions_are, sends_are, functions_are, events_are_declared}
 use Rattle.flat_machine.proofs.Kept.{group_of, none_from_top, groups_on_events}
 use Rattle.flat_machine.proofs.Enabled.{HasComponent}
 use Rattle.flat_machine.proofs.Places.{names_of, has_child}
 use Rattle.flat_machine.proofs.Judged.{IsGroup, judged}
 use Rattle.flat_machine.proofs.Told.{finding_is}
-use Rattle.rsml_meaning.specs.Report.{finding, is_finding}
+use Rattle.rsml_meaning.specs.Report.{finding}
 
 map-append : {A B : Type 0} (f : A → B) (xs ys : List A) → map f (xs ++ ys) ≡ map f xs ++ map f ys
 map-append f [] ys = refl

@@ -1,6 +1,6 @@
 -- The states, the component, the transitions and the cells of a flat specification.
-use Rattle.std.proofs.Common.{◌≡◌, ℕ, suc, ◌+◌, Bool, true, false, cond, ◌&&◌, not, List, [], ◌∷◌, ◌++◌, map, length, flat_map, filter, find, fold, Option, Some, None, option_to_list, is_none, refl, sym, ap, ◌∙◌, append-nil}
-use Rattle.std.specs.List.{list_all, filter_map}
+use Rattle.std.proofs.Common.{◌≡◌, ℕ, suc, true, false, ◌&&◌, List, [], ◌∷◌, ◌++◌, map, flat_map, Option, Some, None, option_to_list, refl, sym, ap, ◌∙◌, append-nil}
+use Rattle.std.specs.List.{filter_map}
 use Rattle.std.specs.Option.{option_map}
 use Rattle.std.specs.Cmp.{first_so, second_so}
 use Rattle.rsml_syntax.specs.declared.syntax.Spec.{Spec}
@@ -14,18 +14,18 @@ use Rattle.rsml_syntax.specs.declared.syntax.Transition.{Transition}
 use Rattle.rsml_syntax.specs.declared.syntax.StateDecl.{StateDecl}
 use Rattle.rsml_syntax.specs.declared.syntax.Body.{Body, Basic, One', All', Row_of-StateDecl, end_of-StateDecl, more_of-StateDecl, items-the_row-StateDecl}
 use Rattle.rsml_syntax.specs.declared.world.World.{World}
-use Rattle.rsml_syntax.specs.Names.{Name, same}
+use Rattle.rsml_syntax.specs.Names.{Name}
 use Rattle.rsml_syntax.specs.Globals.{Globals, globals, indices}
 use Rattle.rsml_syntax.specs.Previous.{names_previous}
-use Rattle.rsml_syntax.specs.Parts.{children_of, buses_of, transitions_of, is_basic}
-use Rattle.rsml_meaning.specs.Words.{Path, at, child_path, numbered, numbered_from, Each}
-use Rattle.rsml_meaning.specs.Instances.{State, Component, new_component, new_state, component_of, row_names, inside, row_inside, states, components, events, globals_of}
-use Rattle.rsml_meaning.specs.Transitions.{TransitionInstance, innermost, sources, target_path, new_transition, transitions, transitions_of as instances_of}
-use Rattle.rsml_meaning.specs.Cells.{own_cells, previous_cells, cells, as_previous}
+use Rattle.rsml_syntax.specs.Parts.{children_of, transitions_of}
+use Rattle.rsml_meaning.specs.Words.{Path, at, child_path, numbered, numbered_from}
+use Rattle.rsml_meaning.specs.Instances.{State, new_component, new_state, component_of, row_names, inside, row_inside, states, components, events}
+use Rattle.rsml_meaning.specs.Transitions.{TransitionInstance, sources, target_path, new_transition, transitions, transitions_of as instances_of}
+use Rattle.rsml_meaning.specs.Cells.{own_cells, cells, as_previous}
 use Rattle.rsml_meaning.specs.Interfaces.{sends, functions}
-use Rattle.rsml_meaning.specs.Truth.{view, bare, within, instance}
-use Rattle.flat_machine.specs.Flat.{is_flat_child, are_flat_children, is_flat_transition, are_flat_transitions, is_flat_target, is_flat_guard, is_flat_body, are_flat_decls, is_none_of, is_all}
-use Rattle.flat_machine.proofs.Basics.{differ, filter_none, map_same, each_from_all}
+use Rattle.rsml_meaning.specs.Truth.{view, bare}
+use Rattle.flat_machine.specs.Flat.{is_flat_child, are_flat_children, is_flat_transition, are_flat_transitions, is_flat_target, is_flat_guard, is_flat_body, are_flat_decls}
+use Rattle.flat_machine.proofs.Basics.{differ, filter_none}
 use Rattle.flat_machine.proofs.Declared.{event_of, events_are, no_sends, no_functions, view_is}
 use Rattle.flat_machine.proofs.Previous.{no_previous}
 

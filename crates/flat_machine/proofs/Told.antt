@@ -1,6 +1,6 @@
 -- The text of what is found of a group is that of the definitions.
-use Rattle.std.proofs.Common.{◌≡◌, ℕ, suc, ◌+◌, ◌<◌, Bool, true, false, cond, ◌&&◌, ◌||◌, not, nat_eq, List, [], ◌∷◌, ◌++◌, map, length, drop, flat_map, filter, zip, Option, Some, None, is_none, refl, sym, ap, ◌∙◌, subst, arith, append-nil}
-use Rattle.std.specs.Prelude.{ℤ, pos, if◌then◌else◌, ◌==◌, slice_index_or, codes, decimal}
+use Rattle.std.proofs.Common.{◌≡◌, ℕ, suc, true, false, ◌&&◌, List, [], ◌∷◌, ◌++◌, map, length, drop, flat_map, zip, Option, Some, None, is_none, refl, sym, ap, ◌∙◌, subst, arith, append-nil}
+use Rattle.std.specs.Prelude.{pos, if◌then◌else◌, ◌==◌, slice_index_or, codes, decimal}
 use Rattle.std.specs.Ordering.{int_eq}
 use Rattle.std.proofs.lemmas.Bool.Decides.{nat_tests}
 use Rattle.std.specs.Cmp.{first_so, second_so}
@@ -9,23 +9,20 @@ use Rattle.rsml_syntax.specs.declared.syntax.Transition.{Transition}
 use Rattle.rsml_syntax.specs.declared.syntax.StateDecl.{StateDecl}
 use Rattle.rsml_syntax.specs.declared.syntax.Body.{Body}
 use Rattle.rsml_syntax.specs.declared.syntax.Spec.{Spec}
-use Rattle.rsml_syntax.specs.declared.world.World.{World}
-use Rattle.rsml_syntax.specs.Names.{Name, same}
+use Rattle.rsml_syntax.specs.Names.{Name}
 use Rattle.rsml_syntax.specs.Globals.{Globals, globals}
 use Rattle.rsml_syntax.specs.Parts.{children_of, transitions_of}
-use Rattle.rsml_meaning.specs.Words.{Path, at, child_path, Each}
-use Rattle.rsml_meaning.specs.Instances.{Component}
-use Rattle.rsml_meaning.specs.Active.{chosen}
-use Rattle.rsml_meaning.specs.Cells.{InputCell, cells, own_cells}
-use Rattle.rsml_meaning.specs.Texts.{Text, text_line, instance_text, path_text, value_text, last_name, action_text, label, cell_text}
-use Rattle.rsml_meaning.specs.Groups.{Group, Member, transition}
+use Rattle.rsml_meaning.specs.Words.{at, child_path, Each}
+use Rattle.rsml_meaning.specs.Cells.{InputCell, own_cells}
+use Rattle.rsml_meaning.specs.Texts.{Text, text_line, instance_text, path_text, value_text, action_text, label}
+use Rattle.rsml_meaning.specs.Groups.{Member, transition}
 use Rattle.rsml_meaning.specs.Transitions.{TransitionInstance, target_path}
 use Rattle.std.specs.Option.{option_map}
-use Rattle.rsml_meaning.specs.Report.{choice_line, cell_line, world_text, member_label, enabled_text, confirmed, finding, group_text}
-use Rattle.flat_machine.specs.Flat.{is_none_of, is_flat_guard, is_flat_body, are_flat_decls, is_flat_target, is_flat_transition}
-use Rattle.flat_machine.specs.Machine.{target_of, Numbers, FlatInput, FlatMember, FlatGroup, inputs_in, rows_of, guard_truth, members_from, enabled_in}
+use Rattle.rsml_meaning.specs.Report.{choice_line, cell_line, world_text, member_label, enabled_text, confirmed, finding}
+use Rattle.flat_machine.specs.Flat.{is_nil, is_flat_guard, is_flat_body, are_flat_decls, is_flat_target}
+use Rattle.flat_machine.specs.Machine.{target_of, Numbers, FlatInput, FlatGroup, inputs_in, rows_of, guard_truth}
 use Rattle.flat_machine.specs.Search.{sizes, AreNumbers, IsFound}
-use Rattle.flat_machine.specs.FlatTexts.{child_text, begins, flat_choice_line, flat_cell_line, value_of, flat_world_text, flat_action, flat_label, member_line, members_text, flat_enabled_text, finding_text}
+use Rattle.flat_machine.specs.FlatTexts.{child_text, flat_choice_line, flat_cell_line, value_of, flat_world_text, flat_action, flat_label, member_line, members_text, flat_enabled_text, finding_text}
 use Rattle.flat_machine.specs.Answered.{child_place, world_of, told_of}
 use Rattle.flat_machine.specs.declared.verdict.Verdict.{Verdict}
 use Rattle.flat_machine.specs.declared.verdict.Verdict.TheVariants as verdicts
@@ -35,12 +32,12 @@ use Rattle.flat_machine.proofs.Shape.{top_path, child_at, lead, spec_of, cells_a
 use Rattle.flat_machine.proofs.Guards.{equal}
 use Rattle.flat_machine.proofs.Kept.{kept_from, member_of, group_of}
 use Rattle.flat_machine.proofs.Enabled.{HasComponent, enabled_kept, enabled_members, IsFlatMember, kept_are_flat, source_is, enabled_are}
-use Rattle.flat_machine.proofs.Places.{names_of, has_child, place_is, begins_is}
+use Rattle.flat_machine.proofs.Places.{names_of, place_is, begins_is}
 use Rattle.flat_machine.proofs.Judged.{IsGroup}
 
 -- CELLS
 
-value_text_is : (vs : List Name) (n : ℕ) → is_none_of vs ≡ false → value_text vs (pos n) ≡ value_of vs n
+value_text_is : (vs : List Name) (n : ℕ) → is_nil vs ≡ false → value_text vs (pos n) ≡ value_of vs n
 value_text_is [] n h = differ h
 value_text_is (v ∷ vs) n h = refl
 
@@ -123,7 +120,7 @@ module _ (name : Name) (decls : List Decl) (top : Name) (ds : are_flat_decls (gl
   member_is t h =
       ap (λ l. text_line (codes "  enabled " ++ l))
       (label_is top x.child g xs t (source_is name decls top ds b flat x.child x.event t h)
-      (first_so (is_flat_target t.1.target) (is_none_of t.1.raises && is_flat_guard g t.1.guard) (second_so (is_none t.1.trigger.index) (is_flat_target t.1.target && (is_none_of t.1.raises && is_flat_guard g t.1.guard)) h.0)))
+      (first_so (is_flat_target t.1.target) (is_nil t.1.raises && is_flat_guard g t.1.guard) (second_so (is_none t.1.trigger.index) (is_flat_target t.1.target && (is_nil t.1.raises && is_flat_guard g t.1.guard)) h.0)))
 
   pub enabled_is : (ns : Numbers) → AreNumbers (sizes xs) ns → enabled_text s (group_of top x) (world_of cs x.child ns) ≡ flat_enabled_text top x ns
   enabled_is ns small =

@@ -1,6 +1,6 @@
 -- The whole report on a flat specification, and when it certifies.
-use Rattle.std.proofs.Common.{◌≡◌, ℕ, suc, ◌+◌, ◌<◌, ◌≤◌, ◌⊎◌, inl, inr, Bool, true, false, cond, ◌&&◌, ◌||◌, not, List, [], ◌∷◌, ◌++◌, map, length, flat_map, filter, zip, Option, Some, None, is_some, is_none, refl, sym, ap, ◌∙◌, subst, arith, append-nil, append_assoc}
-use Rattle.std.specs.Prelude.{pos, if◌then◌else◌, ◌==◌, nat_le, IsTrue, ◌↔◌, codes, decimal}
+use Rattle.std.proofs.Common.{◌≡◌, ℕ, suc, ◌⊎◌, inl, inr, Bool, true, false, cond, ◌&&◌, ◌||◌, List, [], ◌∷◌, ◌++◌, map, length, flat_map, filter, zip, Option, Some, None, is_some, is_none, refl, sym, ap, ◌∙◌, subst, arith, append_assoc}
+use Rattle.std.specs.Prelude.{if◌then◌else◌, ◌==◌, nat_le, IsTrue, ◌↔◌, codes, decimal}
 use Rattle.std.specs.Fmt.{digits}
 use Rattle.std.specs.List.{list_any, AllZip, items_where_true}
 use Rattle.std.specs.Cmp.{first_so, second_so}
@@ -10,7 +10,6 @@ use Rattle.rsml_syntax.specs.declared.syntax.Decl.{Decl}
 use Rattle.rsml_syntax.specs.declared.syntax.Decl.TheVariants as decl
 use Rattle.rsml_syntax.specs.declared.syntax.Amount.{Amount}
 use Rattle.rsml_syntax.specs.declared.syntax.Index.{Index}
-use Rattle.rsml_syntax.specs.declared.syntax.Mention.{Mention}
 use Rattle.rsml_syntax.specs.declared.syntax.StateDecl.{StateDecl}
 use Rattle.rsml_syntax.specs.declared.syntax.Body.{Body, Basic, One', All'}
 use Rattle.rsml_syntax.specs.declared.syntax.Spec.{Spec}
@@ -18,18 +17,18 @@ use Rattle.rsml_syntax.specs.Names.{Name, same}
 use Rattle.rsml_syntax.specs.Globals.{Globals, globals}
 use Rattle.rsml_syntax.specs.Parts.{children_of}
 use Rattle.rsml_meaning.specs.Words.{Instance, at, same_instance, Each}
-use Rattle.rsml_meaning.specs.Instances.{events, components, row_names, new_component}
-use Rattle.rsml_meaning.specs.Interfaces.{receives, receives_of}
-use Rattle.rsml_meaning.specs.Groups.{Group, groups, Sound}
+use Rattle.rsml_meaning.specs.Instances.{events, row_names, new_component}
+use Rattle.rsml_meaning.specs.Interfaces.{receives_of}
+use Rattle.rsml_meaning.specs.Groups.{groups, Sound}
 use Rattle.rsml_meaning.specs.Chains.{is_external}
 use Rattle.rsml_meaning.specs.Certified.{Certified}
 use Rattle.rsml_meaning.specs.Findings.{IsVerdict}
 use Rattle.rsml_meaning.specs.Texts.{Text, text_line}
-use Rattle.rsml_meaning.specs.Report.{Answers, AreRight, IsReport, externals, chain_line, looping, loop_line, clash_line, finding, is_finding, refusals, last_line, report_text}
+use Rattle.rsml_meaning.specs.Report.{AreRight, IsReport, externals, chain_line, looping, loop_line, clash_line, finding, is_finding, refusals, last_line, report_text}
 use Rattle.flat_machine.specs.Flat.{is_flat_decl, is_flat_body, are_flat_decls, worlds, is_flat}
 use Rattle.flat_machine.specs.Machine.{FlatInput, FlatGroup, inputs_in, inputs, flat_groups}
 use Rattle.flat_machine.specs.Search.{sizes, IsFoundOf, AreFound}
-use Rattle.flat_machine.specs.FlatTexts.{raises, is_raised, chain_text, event_text, chain_of, flat_finding, is_found, head_text, flat_report_text}
+use Rattle.flat_machine.specs.FlatTexts.{is_raised, chain_text, chain_of, flat_finding, is_found, flat_report_text}
 use Rattle.flat_machine.specs.Answered.{told, told_of, one_long, without_clash, without_loop, answers}
 use Rattle.flat_machine.specs.declared.verdict.Verdict.{Verdict}
 use Rattle.flat_machine.specs.declared.verdict.Verdict.TheVariants as verdicts

@@ -1,12 +1,12 @@
 -- Flat specifications: one component at most, over inputs of enumerations, and few worlds.
-use Rattle.std.specs.Prelude.{ℕ, ◌*◌, Bool, true, false, not, ◌&&◌, List, [], ◌∷◌, ◌++◌, map, length, flat_map, fold, Option, Some, None, is_some, is_none, if◌then◌else◌, nat_le, ◌==◌}
+use Rattle.std.specs.Prelude.{ℕ, ◌*◌, Bool, true, false, not, ◌&&◌, List, [], ◌∷◌, length, flat_map, fold, Option, Some, None, is_some, is_none, if◌then◌else◌, nat_le, ◌==◌}
 use Rattle.std.specs.List.{list_all}
 use Rattle.std.specs.Option.{option_map_or, option_and_then}
 use Rattle.rsml_syntax.specs.declared.syntax.Spec.{Spec}
 use Rattle.rsml_syntax.specs.declared.syntax.Decl.{Decl}
 use Rattle.rsml_syntax.specs.declared.syntax.Decl.TheVariants as decl
 use Rattle.rsml_syntax.specs.declared.syntax.StateDecl.{StateDecl}
-use Rattle.rsml_syntax.specs.declared.syntax.Body.{Body, Basic, One', All', items-the_row-StateDecl}
+use Rattle.rsml_syntax.specs.declared.syntax.Body.{Body, One', All', items-the_row-StateDecl}
 use Rattle.rsml_syntax.specs.declared.syntax.Transition.{Transition}
 use Rattle.rsml_syntax.specs.declared.syntax.Guard.{Guard}
 use Rattle.rsml_syntax.specs.declared.syntax.Guard.TheVariants as guards
@@ -22,13 +22,13 @@ use Rattle.rsml_syntax.specs.declared.syntax.Operand.{Operand}
 use Rattle.rsml_syntax.specs.declared.syntax.Operand.TheVariants as operands
 use Rattle.rsml_syntax.specs.declared.syntax.Mention.{Mention}
 use Rattle.rsml_syntax.specs.Names.{Name}
-use Rattle.rsml_syntax.specs.Globals.{Globals, globals, Known, meaning, values_of}
+use Rattle.rsml_syntax.specs.Globals.{Globals, globals, meaning, values_of}
 use Rattle.rsml_syntax.specs.Uses.{is_input}
 use Rattle.rsml_syntax.specs.Parts.{children_of, buses_of, transitions_of, is_basic}
 
-abbrev pub is_none_of : {A : Type 0} → List A → Bool
-is_none_of [] = true
-is_none_of (_ ∷ _) = false
+abbrev pub is_nil : {A : Type 0} → List A → Bool
+is_nil [] = true
+is_nil (_ ∷ _) = false
 
 -- NAMES
 
@@ -48,7 +48,7 @@ value_place g name = option_and_then (λ k. k.value) (meaning g name)
 -- an enumeration, an input of an enumeration, an event, or a receive; without size
 abbrev pub is_flat_decl : Globals → Decl → Bool
 is_flat_decl g (decl.Enumeration _ _) = true
-is_flat_decl g (decl.Input _ size kind _) = is_none size && not (is_none_of (enumeration g kind))
+is_flat_decl g (decl.Input _ size kind _) = is_none size && not (is_nil (enumeration g kind))
 is_flat_decl g (decl.Event _ size) = is_none size
 is_flat_decl g (decl.Receive _ size _ raised) = is_none size && is_none raised.index
 is_flat_decl g _ = false
@@ -105,7 +105,7 @@ is_flat_target target = option_map_or (λ path. length path == 1) target true
 
 abbrev pub is_flat_transition : Globals → Transition → Bool
 is_flat_transition g t =
-    is_none t.trigger.index && (is_flat_target t.target && (is_none_of t.raises && is_flat_guard g t.guard))
+    is_none t.trigger.index && (is_flat_target t.target && (is_nil t.raises && is_flat_guard g t.guard))
 
 abbrev pub are_flat_transitions : Globals → List Transition → Bool
 are_flat_transitions g ts = list_all (is_flat_transition g) ts
@@ -124,7 +124,7 @@ is_all _ = false
 abbrev pub is_flat_body : Globals → Body → Bool
 is_flat_body g body =
     not (is_all body)
-    && (are_flat_children (children_of body) && (is_none_of (buses_of body) && are_flat_transitions g (transitions_of body)))
+    && (are_flat_children (children_of body) && (is_nil (buses_of body) && are_flat_transitions g (transitions_of body)))
 
 -- WORLDS
 

@@ -1,15 +1,13 @@
 -- The report on a flat specification, over the verdicts on its groups.
 use Rattle.std.specs.Prelude.{ℕ, Bool, true, false, List, [], ◌∷◌, ◌++◌, length, Option, Some, None, if◌then◌else◌, ◌==◌, flat_map, filter, zip, slice_index_or, codes, decimal}
 use Rattle.std.specs.List.{list_any}
-use Rattle.rsml_syntax.specs.declared.syntax.Spec.{Spec}
 use Rattle.rsml_syntax.specs.declared.syntax.Decl.{Decl}
 use Rattle.rsml_syntax.specs.declared.syntax.Decl.TheVariants as decl
 use Rattle.rsml_syntax.specs.declared.syntax.StateDecl.{StateDecl}
 use Rattle.rsml_syntax.specs.Names.{Name, same}
-use Rattle.rsml_syntax.specs.Parts.{children_of}
 use Rattle.rsml_meaning.specs.Texts.{Text, text_line}
 use Rattle.rsml_meaning.specs.Report.{confirmed, last_line}
-use Rattle.flat_machine.specs.Machine.{Numbers, FlatInput, FlatMember, FlatGroup, inputs, flat_groups, enabled_in, guard_truth}
+use Rattle.flat_machine.specs.Machine.{Numbers, FlatInput, FlatMember, FlatGroup, enabled_in, guard_truth}
 use Rattle.flat_machine.specs.declared.verdict.Verdict.{Verdict}
 use Rattle.flat_machine.specs.declared.verdict.Verdict.TheVariants as verdicts
 

@@ -1,7 +1,6 @@
 -- The machine of a flat specification: its inputs, and its groups with their members.
-use Rattle.std.specs.Prelude.{ℕ, suc, ◌+◌, Bool, true, false, ◌&&◌, List, [], ◌∷◌, map, length, flat_map, filter, Option, Some, None, if◌then◌else◌, ◌==◌, slice_get, slice_index, slice_index_or, unwrap_or}
+use Rattle.std.specs.Prelude.{ℕ, suc, Bool, true, ◌&&◌, List, [], ◌∷◌, map, length, flat_map, filter, Option, Some, None, if◌then◌else◌, ◌==◌, slice_get, slice_index, slice_index_or, unwrap_or}
 use Rattle.std.specs.List.{list_any, list_all}
-use Rattle.std.specs.Option.{option_map_or}
 use Rattle.rsml_syntax.specs.declared.syntax.Spec.{Spec}
 use Rattle.rsml_syntax.specs.declared.syntax.Decl.{Decl}
 use Rattle.rsml_syntax.specs.declared.syntax.Decl.TheVariants as decl
@@ -14,7 +13,6 @@ use Rattle.rsml_syntax.specs.declared.syntax.Cell.{Cell}
 use Rattle.rsml_syntax.specs.declared.syntax.Cell.TheVariants as cells
 use Rattle.rsml_syntax.specs.declared.syntax.Phrase.{Phrase}
 use Rattle.rsml_syntax.specs.declared.syntax.Phrase.TheVariants as phrases
-use Rattle.rsml_syntax.specs.declared.syntax.Simple.{Simple}
 use Rattle.rsml_syntax.specs.declared.syntax.Simple.TheVariants as simples
 use Rattle.rsml_syntax.specs.declared.syntax.Sum.{Sum}
 use Rattle.rsml_syntax.specs.Names.{Name, same}

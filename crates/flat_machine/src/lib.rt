@@ -9,6 +9,8 @@ mod lookup;
 mod machine;
 mod result;
 mod search;
+#[cfg(test)]
+mod tests;
 mod text;
 mod truth;
 mod verdict;

@@ -36,7 +36,7 @@ fn least(
 }
 
 /// What is found of members over inputs with so many values each.
-#[tactic(auto, using(crate::proofs::Flats::sound))]
+#[tactic(auto, using(crate::proofs::ExactlyOne::sound))]
 pub fn judge(
     alloc: Global,
     members: &[FlatMember<'_>],

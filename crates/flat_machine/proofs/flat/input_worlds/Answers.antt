@@ -1,4 +1,4 @@
-use Rattle.std.proofs.Common.{rules, arith}
+use Rattle.std.proofs.Common.{arith}
 use Rattle.rsml_syntax.specs.Globals.{globals}
 use Rattle.flat_machine.specs.Flat.{sizes_of}
 use Rattle.flat_machine.proofs.Products.{next_counted, all_counted}

@@ -1,4 +1,4 @@
-use Rattle.std.proofs.Common.{rules, sym, ◌∙◌}
+use Rattle.std.proofs.Common.{rules}
 use Rattle.flat_machine.proofs.Lookups.{found_value, passed}
 use Rattle.flat_machine.proofs.lookup.meaning.Goals as goal
 

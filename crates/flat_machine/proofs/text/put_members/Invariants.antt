@@ -1,4 +1,4 @@
-use Rattle.std.proofs.Common.{◌≡◌, ◌++◌, drop, flat_map, filter}
+use Rattle.std.proofs.Common.{◌≡◌, ◌++◌, drop, flat_map}
 use Rattle.flat_machine.specs.Machine.{enabled_in}
 use Rattle.flat_machine.specs.FlatTexts.{member_line, members_text}
 use Rattle.flat_machine.proofs.text.put_members.Given as goal

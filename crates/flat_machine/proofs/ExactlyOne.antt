@@ -1,7 +1,7 @@
 -- When a group is sound.
-use Rattle.std.proofs.Common.{◌≡◌, ℕ, zero, suc, List, [], ◌++◌, length, true, false, refl, sym, ap, ◌∙◌, arith, true≢false}
+use Rattle.std.proofs.Common.{◌≡◌, ℕ, List, [], length, false, arith}
 use Rattle.flat_machine.specs.Machine.{Numbers, FlatMember, enabled_in}
-use Rattle.flat_machine.specs.Search.{AreNumbers, fails, is_failure, Passes}
+use Rattle.flat_machine.specs.Search.{AreNumbers, is_failure, Passes}
 use Rattle.flat_machine.specs.declared.search.Failure.TheVariants.{Missing, Double}
 
 one : (n : ℕ) → is_failure Missing n ≡ false → is_failure Double n ≡ false → n ≡ 1
