@@ -38,17 +38,19 @@ wide : (c : ℕ) → 128 ≤ c → IsWide (encode c)
 unfolding encode High
 wide c h =
     pick (nat_lt c 128) (c ∷ []) (cond (nat_lt c 2048) two (cond (nat_lt c 65536) three four)) (λ low. absurd (grind (arith, nat_tests)))
-      (λ _. pick (nat_lt c 2048) two (cond (nat_lt c 65536) three four) (λ _. record { some = omega arith; high = (omega arith, (omega arith, tt)) })
-      (λ _. pick (nat_lt c 65536) three four (λ _. record { some = omega arith; high = (omega arith, (omega arith, (omega arith, tt))) })
-      (λ _. record { some = omega arith; high = (omega arith, (omega arith, (omega arith, (omega arith, tt)))) })))
+    (λ _. pick (nat_lt c 2048) two (cond (nat_lt c 65536) three four) (λ _. record { some = omega arith; high = (omega arith, (omega arith, tt)) })
+    (λ _. pick (nat_lt c 65536) three four (λ _. record { some = omega arith; high = (omega arith, (omega arith, (omega arith, tt))) })
+    (λ _. record { some = omega arith; high = (omega arith, (omega arith, (omega arith, (omega arith, tt)))) })))
   where
     next : ℕ → ℕ
     next bits = 128 + bits % 64
 
     two : List ℕ
     two = (192 + c / 64) ∷ next c ∷ []
+
     three : List ℕ
     three = (224 + c / 4096) ∷ next (c / 64) ∷ next c ∷ []
+
     four : List ℕ
     four = (240 + c / 262144) ∷ next (c / 4096) ∷ next (c / 64) ∷ next c ∷ []
 
@@ -75,14 +77,17 @@ mutual
   pub blanks_bytes : (cs : List ℕ) → after_blanks (encode_utf8_all cs) ≡ encode_utf8_all (after_blanks cs)
   blanks_bytes [] = refl
   blanks_bytes (c ∷ cs) = elim (cases_lt c 128) [
-      inl low ↦ ap (λ l. after_blanks (l ++ encode_utf8_all cs)) (encode_ascii c low) ∙
+    | inl low ↦ ap (λ l. after_blanks (l ++ encode_utf8_all cs)) (encode_ascii c low) ∙
         elim (c == 35) as (λ b. (if b then after_comment (encode_utf8_all cs) else if is_white c then after_blanks (encode_utf8_all cs) else c ∷ encode_utf8_all cs)
-            ≡ encode_utf8_all (if b then after_comment cs else if is_white c then after_blanks cs else c ∷ cs)) [
-          true ↦ comment_bytes cs
-        | false ↦ elim (is_white c) as (λ w. (if w then after_blanks (encode_utf8_all cs) else c ∷ encode_utf8_all cs) ≡ encode_utf8_all (if w then after_blanks cs else c ∷ cs)) [
-            true ↦ blanks_bytes cs
-          | false ↦ ap (λ l. l ++ encode_utf8_all cs) (sym (encode_ascii c low)) ] ]
-    | inr high ↦ let k = no_blank_byte c high in blanks_stop (encode c) (encode_utf8_all cs) (wide c high) ∙ ap encode_utf8_all (sym (stays k.0 k.1)) ]
+        ≡ encode_utf8_all (if b then after_comment cs else if is_white c then after_blanks cs else c ∷ cs)) [
+          | true ↦ comment_bytes cs
+          | false ↦ elim (is_white c) as (λ w. (if w then after_blanks (encode_utf8_all cs) else c ∷ encode_utf8_all cs) ≡ encode_utf8_all (if w then after_blanks cs else c ∷ cs)) [
+            | true ↦ blanks_bytes cs
+            | false ↦ ap (λ l. l ++ encode_utf8_all cs) (sym (encode_ascii c low))
+          ]
+        ]
+    | inr high ↦ let k = no_blank_byte c high in blanks_stop (encode c) (encode_utf8_all cs) (wide c high) ∙ ap encode_utf8_all (sym (stays k.0 k.1))
+  ]
     where
       stays : (c == 35) ≡ false → is_white c ≡ false → after_blanks (c ∷ cs) ≡ c ∷ cs
       stays a b = rw (a, b) refl
@@ -90,10 +95,13 @@ mutual
   pub comment_bytes : (cs : List ℕ) → after_comment (encode_utf8_all cs) ≡ encode_utf8_all (after_comment cs)
   comment_bytes [] = refl
   comment_bytes (c ∷ cs) = elim (cases_lt c 128) [
-      inl low ↦ ap (λ l. after_comment (l ++ encode_utf8_all cs)) (encode_ascii c low) ∙
+    | inl low ↦ ap (λ l. after_comment (l ++ encode_utf8_all cs)) (encode_ascii c low) ∙
         elim (c == 10) as (λ b. (if b then after_blanks (encode_utf8_all cs) else after_comment (encode_utf8_all cs)) ≡ encode_utf8_all (if b then after_blanks cs else after_comment cs)) [
-          true ↦ blanks_bytes cs | false ↦ comment_bytes cs ]
-    | inr high ↦ comment_over (encode c) (encode_utf8_all cs) (wide c high).high ∙ comment_bytes cs ∙ ap encode_utf8_all (sym (goes c high)) ]
+          | true ↦ blanks_bytes cs
+          | false ↦ comment_bytes cs
+        ]
+    | inr high ↦ comment_over (encode c) (encode_utf8_all cs) (wide c high).high ∙ comment_bytes cs ∙ ap encode_utf8_all (sym (goes c high))
+  ]
     where
       goes : (c : ℕ) → 128 ≤ c → after_comment (c ∷ cs) ≡ after_comment cs
       goes c high = let k : (c == 10) ≡ false = grind (arith, nat_tests) in rw k refl
@@ -103,15 +111,20 @@ mutual
   blanks_scalars [] h = refl
   blanks_scalars (c ∷ cs) h =
       elim (c == 35) as (λ b. all_scalars (if b then after_comment cs else if is_white c then after_blanks cs else c ∷ cs) ≡ true) [
-        true ↦ comment_scalars cs (both (scalar c) (all_scalars cs) h).1
-      | false ↦ elim (is_white c) as (λ w. all_scalars (if w then after_blanks cs else c ∷ cs) ≡ true) [
-          true ↦ blanks_scalars cs (both (scalar c) (all_scalars cs) h).1 | false ↦ h ] ]
+        | true ↦ comment_scalars cs (both (scalar c) (all_scalars cs) h).1
+        | false ↦ elim (is_white c) as (λ w. all_scalars (if w then after_blanks cs else c ∷ cs) ≡ true) [
+          | true ↦ blanks_scalars cs (both (scalar c) (all_scalars cs) h).1
+          | false ↦ h
+        ]
+      ]
 
   comment_scalars : (cs : List ℕ) → all_scalars cs ≡ true → all_scalars (after_comment cs) ≡ true
   comment_scalars [] h = refl
   comment_scalars (c ∷ cs) h =
       elim (c == 10) as (λ b. all_scalars (if b then after_blanks cs else after_comment cs) ≡ true) [
-        true ↦ blanks_scalars cs (both (scalar c) (all_scalars cs) h).1 | false ↦ comment_scalars cs (both (scalar c) (all_scalars cs) h).1 ]
+        | true ↦ blanks_scalars cs (both (scalar c) (all_scalars cs) h).1
+        | false ↦ comment_scalars cs (both (scalar c) (all_scalars cs) h).1
+      ]
 
 -- what is left is text, and its characters are what is left of the characters
 pub blanks_text : (bs : List ℕ) → IsUtf8 bs → IsUtf8 (after_blanks bs) × (chars (after_blanks bs) ≡ after_blanks (chars bs))
@@ -134,8 +147,9 @@ unfolding High
 passing_stops test [] rest low h = absurd (let s = h.some in omega arith)
 passing_stops test (b ∷ hs) rest low h =
     elim (test b) as (λ t. test b ≡ t → ((if t then b ∷ passing test (hs ++ rest) else []) ≡ []) × ((if t then after_passing test (hs ++ rest) else b ∷ (hs ++ rest)) ≡ b ∷ (hs ++ rest))) [
-      true ↦ λ e. absurd (let l = low b e in let k = h.high.0 in omega arith)
-    | false ↦ λ e. (refl, refl) ] refl
+      | true ↦ λ e. absurd (let l = low b e in let k = h.high.0 in omega arith)
+      | false ↦ λ e. (refl, refl)
+    ] refl
 
 -- what an ASCII test splits off the bytes is what it splits off the characters
 pub record Split (test : ℕ → Bool) (cs : List ℕ) : Type 0 where
@@ -148,24 +162,26 @@ split_bytes test [] low = record { front = refl; rest = refl; same = refl }
 split_bytes test (c ∷ cs) low =
     let r = split_bytes test cs low in
     elim (test c) as (λ t. test c ≡ t → Split test (c ∷ cs)) [
-      true ↦ λ e.
-        let one = encode_ascii c (low c e) in
-        record {
-          front = ap (λ l. passing test (l ++ encode_utf8_all cs)) one ∙ rw e (ap (λ l. c ∷ l) r.front);
-          rest = ap (λ l. after_passing test (l ++ encode_utf8_all cs)) one ∙ rw e r.rest;
-          same = rw e (ap (λ l. l ++ encode_utf8_all (passing test cs)) one ∙ ap (λ l. c ∷ l) r.same);
-        }
-    | false ↦ λ e. elim (cases_lt c 128) [
-        inl l ↦ let one = encode_ascii c l in record {
+      | true ↦ λ e.
+          let one = encode_ascii c (low c e) in
+          record {
+            front = ap (λ l. passing test (l ++ encode_utf8_all cs)) one ∙ rw e (ap (λ l. c ∷ l) r.front);
+            rest = ap (λ l. after_passing test (l ++ encode_utf8_all cs)) one ∙ rw e r.rest;
+            same = rw e (ap (λ l. l ++ encode_utf8_all (passing test cs)) one ∙ ap (λ l. c ∷ l) r.same);
+          }
+      | false ↦ λ e. elim (cases_lt c 128) [
+        | inl l ↦ let one = encode_ascii c l in record {
           front = ap (λ l. passing test (l ++ encode_utf8_all cs)) one ∙ rw e refl;
           rest = ap (λ l. after_passing test (l ++ encode_utf8_all cs)) one ∙ rw e (ap (λ l. l ++ encode_utf8_all cs) (sym one));
           same = rw e refl;
         }
-      | inr h ↦ let s = passing_stops test (encode c) (encode_utf8_all cs) low (wide c h) in record {
+        | inr h ↦ let s = passing_stops test (encode c) (encode_utf8_all cs) low (wide c h) in record {
           front = s.0 ∙ rw e refl;
           rest = s.1 ∙ rw e refl;
           same = rw e refl;
-        } ] ] refl
+        }
+      ]
+    ] refl
 
 pub digit_low : (c : ℕ) → is_digit c ≡ true → c < 128
 digit_low c h = grind (arith, nat_tests)
@@ -196,8 +212,9 @@ starts_bytes (x ∷ m) [] low = refl
 starts_bytes (x ∷ m) (c ∷ cs) low =
     let b = both (nat_lt x 128) (list_all (λ c. nat_lt c 128) m) low in
     elim (cases_lt c 128) [
-      inl l ↦ ap (λ l. starts_with nat_eq (l ++ encode_utf8_all cs) (x ∷ m)) (encode_ascii c l) ∙ ap (λ t. nat_eq x c && t) (starts_bytes m cs b.1)
-    | inr h ↦ high_differs (x ∷ m) (encode c) (encode_utf8_all cs) low (omega arith) (wide c h) ∙ sym (other x c b.0 h) ]
+      | inl l ↦ ap (λ l. starts_with nat_eq (l ++ encode_utf8_all cs) (x ∷ m)) (encode_ascii c l) ∙ ap (λ t. nat_eq x c && t) (starts_bytes m cs b.1)
+      | inr h ↦ high_differs (x ∷ m) (encode c) (encode_utf8_all cs) low (omega arith) (wide c h) ∙ sym (other x c b.0 h)
+    ]
   where
     other : (x c : ℕ) → nat_lt x 128 ≡ true → 128 ≤ c → starts_with nat_eq (c ∷ cs) (x ∷ m) ≡ false
     other x c l h = let k : nat_eq x c ≡ false = grind (arith, nat_tests) in rw k refl

@@ -56,26 +56,26 @@ tokens_lexed e bytes v h =
 
 pub fault_lexed : (e : Edition) (bytes : List ℕ) (f : Fault) → LexFault e bytes f → Lexed e bytes (Err (error_of f))
 fault_lexed e bytes f h = record {
-      ok = tt;
-      fault = λ g n. subst (LexFault e bytes) (error_same f g (same_error (error_of f) (error_of g) n)) h;
-      only_ok = λ ts k. absurd (lexes_or_faults e bytes ts f k h);
-      only_fault = λ g k. inl (ap error_of (fault_once e bytes f g h k));
-      tokens = tt;
-      few = tt;
-    }
+  ok = tt;
+  fault = λ g n. subst (LexFault e bytes) (error_same f g (same_error (error_of f) (error_of g) n)) h;
+  only_ok = λ ts k. absurd (lexes_or_faults e bytes ts f k h);
+  only_fault = λ g k. inl (ap error_of (fault_once e bytes f g h k));
+  tokens = tt;
+  few = tt;
+}
   where
     same_error : (a b : LexError) → (let x : Result (Vec Placed Global) LexError = Err a in x) ≡ Err b → a ≡ b
     same_error a b h = cc
 
 pub no_memory_lexed : (e : Edition) (bytes : List ℕ) → Lexed e bytes (Err errors.NoMemory)
 no_memory_lexed e bytes = record {
-      ok = tt;
-      fault = λ f n. absurd (no_fault f (same_error errors.NoMemory (error_of f) n));
-      only_ok = λ ts k. refl;
-      only_fault = λ f k. inr refl;
-      tokens = tt;
-      few = tt;
-    }
+  ok = tt;
+  fault = λ f n. absurd (no_fault f (same_error errors.NoMemory (error_of f) n));
+  only_ok = λ ts k. refl;
+  only_fault = λ f k. inr refl;
+  tokens = tt;
+  few = tt;
+}
   where
     same_error : (a b : LexError) → (let x : Result (Vec Placed Global) LexError = Err a in x) ≡ Err b → a ≡ b
     same_error a b h = cc

@@ -19,15 +19,16 @@ find_filter : {A : Type 0} (p q : A → Bool) (xs : List A) → ((x : A) → q x
 find_filter p q [] h = refl
 find_filter p q (x ∷ xs) h =
     elim (q x) as (λ b. q x ≡ b → find p (cond b (x ∷ filter q xs) (filter q xs)) ≡ cond (p x) (Some x) (find p xs)) [
-      true ↦ λ e. ap (λ o. cond (p x) (Some x) o) (find_filter p q xs h)
-    | false ↦ λ e. find_filter p q xs h ∙ ap (λ b. cond b (Some x) (find p xs)) (sym (h x e)) ] refl
+      | true ↦ λ e. ap (λ o. cond (p x) (Some x) o) (find_filter p q xs h)
+      | false ↦ λ e. find_filter p q xs h ∙ ap (λ b. cond b (Some x) (find p xs)) (sym (h x e))
+    ] refl
 
 pub word_by_first : (name : List ℕ) (first : ℕ) → Some first ≡ slice_get name 0 → find (λ w. bytes_eq name (spelling w)) (words_from first) ≡ word_of name
 unfolding words_from word_of
 word_by_first [] first h = absurd (cc)
 word_by_first (b ∷ bs) first h =
     subst (λ (f : ℕ). find (λ w. bytes_eq (b ∷ bs) (spelling w)) (filter (λ w. first_is (λ c. f == c) (spelling w)) WORDS) ≡ find (λ w. bytes_eq (b ∷ bs) (spelling w)) WORDS) (sym (same_Some first b h))
-      (find_filter (λ w. bytes_eq (b ∷ bs) (spelling w)) (λ w. first_is (λ c. b == c) (spelling w)) WORDS (λ w e. differs (spelling w) e))
+    (find_filter (λ w. bytes_eq (b ∷ bs) (spelling w)) (λ w. first_is (λ c. b == c) (spelling w)) WORDS (λ w e. differs (spelling w) e))
   where
     differs : (s : List ℕ) → first_is (λ c. b == c) s ≡ false → bytes_eq (b ∷ bs) s ≡ false
     differs [] e = refl

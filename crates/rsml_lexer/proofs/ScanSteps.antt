@@ -1,6 +1,5 @@
 -- Reading all tokens of a text, one after another.
 use Rattle.std.proofs.Common.{◌≡◌, ℕ, ◌+◌, ◌-◌, ◌<◌, ◌≤◌, ◌⊎◌, inl, inr, Bool, ◌==◌, true, false, List, [], ◌∷◌, ◌++◌, length, take, drop, Result, Ok, Err, Vec, Global, refl, sym, ap, ◌∙◌, subst, arith, length-append}
-
 use Rattle.std.proofs.lemmas.Bool.Decides.{nat_tests}
 use Rattle.std.specs.Str.{encode_utf8_all, all_scalars, chars, IsUtf8, IsCharBoundary}
 use Rattle.std.specs.Str.Lossy.{utf8_valid_len}
@@ -27,10 +26,18 @@ scans_push : (e : Edition) (at : ℕ) (cs : List ℕ) (ts : List Placed) (left g
 scans_push e at cs [] left gap s more t h is blank spells stop place =
     let whole : cs ≡ gap ++ (s ++ more) = h ∙ is in
     (gap, s, more, whole, blank, omega (arith, place, ap bytes_of whole, bytes_of-append gap (s ++ more)), spells, stop, refl)
-scans_push e at cs (u ∷ us) left gap s more t h is blank spells stop place =
-    (h.0, h.1, h.2, h.3, h.4, h.5, h.6, h.7,
-      scans_push e (at + bytes_of h.0 + bytes_of h.1) h.2 us left gap s more t h.8 is blank spells stop
-        (omega (arith, place, ap bytes_of h.3, bytes_of-append h.0 (h.1 ++ h.2), bytes_of-append h.1 h.2)))
+scans_push e at cs (u ∷ us) left gap s more t h is blank spells stop place = (
+  h.0,
+  h.1,
+  h.2,
+  h.3,
+  h.4,
+  h.5,
+  h.6,
+  h.7,
+  scans_push e (at + bytes_of h.0 + bytes_of h.1) h.2 us left gap s more t h.8 is blank spells stop
+      (omega (arith, place, ap bytes_of h.3, bytes_of-append h.0 (h.1 ++ h.2), bytes_of-append h.1 h.2)),
+)
 
 -- these tokens are found, and this text is left, which begins with no blank
 pub record Reached (e : Edition) (text : List ℕ) (found : List Placed) (rest : List ℕ) : Type 0 where
@@ -91,7 +98,7 @@ more_reached e text found rest t s more len new u r is size place new_is =
     record {
       left = more;
       scanned = scans_push e 0 (chars text) found r.left n.0 s more t r.scanned n.1 n.2 n.3 n.4
-        (omega (arith, place, within, text_bytes text u, text_bytes rest r.utf8, ap bytes_of m.0));
+          (omega (arith, place, within, text_bytes text u, text_bytes rest r.utf8, ap bytes_of m.0));
       blanks = ap after_blanks (sym l.characters) ∙ sym b.1 ∙ ap chars (sym new_is);
       utf8 = subst IsUtf8 (sym new_is) b.0;
     }
@@ -121,6 +128,11 @@ pub stuck_reached : (e : Edition) (text : List ℕ) (found : List Placed) (rest 
     front e (chars rest) ≡ f → at ≡ place → place ≡ length text - length rest → Stuck e (chars text) at f
 stuck_reached e text found rest f at place u r is same where_ =
     record {
-      tokens = found; rest = r.left; ahead = chars rest; scanned = r.scanned; is = ap (front e) r.blanks ∙ is; blanks = r.blanks;
+      tokens = found;
+      rest = r.left;
+      ahead = chars rest;
+      scanned = r.scanned;
+      is = ap (front e) r.blanks ∙ is;
+      blanks = r.blanks;
       offset = let within = reached_within e text found rest u r in omega (arith, same, where_, within, text_bytes text u, text_bytes rest r.utf8);
     }

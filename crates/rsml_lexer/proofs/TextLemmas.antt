@@ -100,7 +100,9 @@ passing_over (x ∷ xs) ys h = let b = both (is_continuing x) (list_all is_conti
 scalars_after : (test : ℕ → Bool) (cs : List ℕ) → all_scalars cs ≡ true → all_scalars (after_passing test cs) ≡ true
 scalars_after test [] h = refl
 scalars_after test (c ∷ cs) h = elim (test c) as (λ t. all_scalars (if t then after_passing test cs else c ∷ cs) ≡ true) [
-    true ↦ scalars_after test cs (both _ (all_scalars cs) h).1 | false ↦ h ]
+  | true ↦ scalars_after test cs (both _ (all_scalars cs) h).1
+  | false ↦ h
+]
 
 -- what is left after the ASCII characters
 pub ascii_rest : (text : List ℕ) (len : ℕ) → IsUtf8 text → drop len text ≡ after_passing is_ascii_continuing text →
@@ -108,7 +110,7 @@ pub ascii_rest : (text : List ℕ) (len : ℕ) → IsUtf8 text → drop len text
 ascii_rest text len u h =
     let cs = chars text in
     let r : encode_utf8_all (after_passing is_ascii_continuing cs) ≡ drop len text =
-      sym (split_bytes is_ascii_continuing cs continuing_low).rest ∙ ap (after_passing is_ascii_continuing) (encodes-chars text u) ∙ sym h in
+    sym (split_bytes is_ascii_continuing cs continuing_low).rest ∙ ap (after_passing is_ascii_continuing) (encodes-chars text u) ∙ sym h in
     let scalar = scalars_after is_ascii_continuing cs (scalars-chars text u) in
     ((after_passing is_ascii_continuing cs, (scalar, r)), ap chars (sym r) ∙ chars-encodes (after_passing is_ascii_continuing cs) scalar)
 
@@ -126,7 +128,7 @@ ascii_front text len u h =
     let r = after_passing is_ascii_continuing cs in
     let s = split_bytes is_ascii_continuing cs continuing_low in
     let whole : passing is_continuing cs ≡ f ++ passing is_continuing r =
-      ap (passing is_continuing) (split_whole is_ascii_continuing cs) ∙ passing_over f r (all_continue f (split_passes is_ascii_continuing cs)) in
+    ap (passing is_continuing) (split_whole is_ascii_continuing cs) ∙ passing_over f r (all_continue f (split_passes is_ascii_continuing cs)) in
     let taken : encode_utf8_all f ≡ take len text = s.same ∙ sym s.front ∙ ap (passing is_ascii_continuing) (encodes-chars text u) ∙ sym h in
     ap encode_utf8_all whole ∙ encodes-append f (passing is_continuing r) ∙ ap (λ l. l ++ encode_utf8_all (passing is_continuing r)) taken
 
@@ -154,8 +156,8 @@ pub name_stops : (text : List ℕ) (len : ℕ) → IsUtf8 text → take len text
 name_stops text len u front rest low =
     let r = ascii_rest text len u rest in
     let none : passing is_continuing (after_passing is_ascii_continuing (chars text)) ≡ [] =
-      no_more (after_passing is_ascii_continuing (chars text)) (split_ends is_ascii_continuing (chars text))
-        (λ c cs e. low_first text len c (encode_utf8_all cs) low (sym (encodes-chars (drop len text) r.0) ∙ ap encode_utf8_all (r.1 ∙ e))) in
+    no_more (after_passing is_ascii_continuing (chars text)) (split_ends is_ascii_continuing (chars text))
+    (λ c cs e. low_first text len c (encode_utf8_all cs) low (sym (encodes-chars (drop len text) r.0) ∙ ap encode_utf8_all (r.1 ∙ e))) in
     sym (ascii_front text len u front ∙ ap (λ l. take len text ++ encode_utf8_all l) none ∙ append-nil (take len text))
 
 -- What stands at the front.
@@ -177,13 +179,15 @@ name_front e text len t u le start taken is = step (chars text) refl
     step : (l : List ℕ) → l ≡ chars text → (spelling more : List ℕ) × (front e (chars text) ≡ Cut t spelling more) × (len ≡ bytes_of spelling)
     step [] same = absurd (let s = ap (first_is is_start) same ∙ start in cc)
     step (c ∷ cs) same =
-        let first : is_start c ≡ true = ap (first_is is_start) same ∙ start in
-        (passing is_continuing (chars text), after_passing is_continuing (chars text),
+        let first : is_start c ≡ true = ap (first_is is_start) same ∙ start in (
+          passing is_continuing (chars text),
+          after_passing is_continuing (chars text),
           ap (front e) (sym same)
-          ∙ ap (λ (b : Bool). if b then front_named e (c ∷ cs) else if is_digit c then front_number (c ∷ cs) else front_marked (mark_at (c ∷ cs)) (c ∷ cs)) first
-          ∙ ap (front_named e) same
-          ∙ ap (λ x. Cut x (passing is_continuing (chars text)) (after_passing is_continuing (chars text))) (sym (is ∙ ap (named e) taken)),
-          sym (length-take-le len text le) ∙ ap length taken)
+              ∙ ap (λ (b : Bool). if b then front_named e (c ∷ cs) else if is_digit c then front_number (c ∷ cs) else front_marked (mark_at (c ∷ cs)) (c ∷ cs)) first
+              ∙ ap (front_named e) same
+              ∙ ap (λ x. Cut x (passing is_continuing (chars text)) (after_passing is_continuing (chars text))) (sym (is ∙ ap (named e) taken)),
+          sym (length-take-le len text le) ∙ ap length taken,
+        )
 
 digits_bytes : (text : List ℕ) → IsUtf8 text → (digits_at text ≡ digits_at (chars text)) × (bytes_of (digits_at (chars text)) ≡ length (digits_at (chars text)))
 digits_bytes text u =
@@ -209,23 +213,27 @@ number_at e text len u le some start taken =
     let s = starts text u (omega arith) in
     let size : len ≡ length (digits_at (chars text)) = sym (length-take-le len text le) ∙ ap length (taken ∙ b.0) in
     let first : is_start s.0 ≡ false = ap (first_is is_start) (sym s.2) ∙ start in
-    let digit : is_digit s.0 ≡ true = digits_some s.0 s.1 (omega (arith, some, size, ap (λ l. length (digits_at l)) s.2)) in
-    (ap (front e) s.2
-      ∙ ap (λ (b : Bool). if b then front_named e (s.0 ∷ s.1) else if is_digit s.0 then front_number (s.0 ∷ s.1) else front_marked (mark_at (s.0 ∷ s.1)) (s.0 ∷ s.1)) first
-      ∙ ap (λ (b : Bool). if b then front_number (s.0 ∷ s.1) else front_marked (mark_at (s.0 ∷ s.1)) (s.0 ∷ s.1)) digit
-      ∙ ap front_number (sym s.2),
-     size ∙ sym b.1, taken ∙ b.0)
+    let digit : is_digit s.0 ≡ true = digits_some s.0 s.1 (omega (arith, some, size, ap (λ l. length (digits_at l)) s.2)) in (
+      ap (front e) s.2
+          ∙ ap (λ (b : Bool). if b then front_named e (s.0 ∷ s.1) else if is_digit s.0 then front_number (s.0 ∷ s.1) else front_marked (mark_at (s.0 ∷ s.1)) (s.0 ∷ s.1)) first
+          ∙ ap (λ (b : Bool). if b then front_number (s.0 ∷ s.1) else front_marked (mark_at (s.0 ∷ s.1)) (s.0 ∷ s.1)) digit
+          ∙ ap front_number (sym s.2),
+      size ∙ sym b.1,
+      taken ∙ b.0,
+    )
 
 pub small_front : (e : Edition) (text : List ℕ) (len n : ℕ) → IsUtf8 text → len ≤ length text → 0 < len → first_is is_start (chars text) ≡ false → take len text ≡ digits_at text →
     IsNumber (take len text) (Some n) → (spelling more : List ℕ) × (front e (chars text) ≡ Cut (token.Number n) spelling more) × (len ≡ bytes_of spelling)
 small_front e text len n u le some start taken is =
     let k = number_at e text len u le some start taken in
     let value : n ≡ digits_value (digits_at (chars text)) = is.0 ∙ ap digits_value k.2 in
-    let fits : nat_le (digits_value (digits_at (chars text))) greatest_number ≡ true = small (digits_value (digits_at (chars text))) (subst (λ (m : ℕ). m ≤ greatest_number) value is.1) in
-    (digits_at (chars text), after_passing is_digit (chars text),
+    let fits : nat_le (digits_value (digits_at (chars text))) greatest_number ≡ true = small (digits_value (digits_at (chars text))) (subst (λ (m : ℕ). m ≤ greatest_number) value is.1) in (
+      digits_at (chars text),
+      after_passing is_digit (chars text),
       k.0 ∙ ap (λ (b : Bool). (if b then Cut (token.Number (digits_value (digits_at (chars text)))) (digits_at (chars text)) (after_passing is_digit (chars text)) else TooBig)) fits
-        ∙ ap (λ m. Cut (token.Number m) (digits_at (chars text)) (after_passing is_digit (chars text))) (sym value),
-      k.1)
+          ∙ ap (λ m. Cut (token.Number m) (digits_at (chars text)) (after_passing is_digit (chars text))) (sym value),
+      k.1,
+    )
   where
     small : (m : ℕ) → m ≤ greatest_number → nat_le m greatest_number ≡ true
     small m h = grind (arith, nat_tests)
@@ -250,16 +258,19 @@ marked_at e text len u some le none start taken =
     let first : is_start s.0 ≡ false = ap (first_is is_start) (sym s.2) ∙ start in
     let digit : is_digit s.0 ≡ false = digits_none s.0 s.1 (ap (λ l. length (digits_at l)) (sym s.2) ∙ sym (ap length (taken ∙ b.0)) ∙ length-take-le len text le ∙ none) in
     ap (front e) s.2
-      ∙ ap (λ (b : Bool). if b then front_named e (s.0 ∷ s.1) else if is_digit s.0 then front_number (s.0 ∷ s.1) else front_marked (mark_at (s.0 ∷ s.1)) (s.0 ∷ s.1)) first
-      ∙ ap (λ (b : Bool). if b then front_number (s.0 ∷ s.1) else front_marked (mark_at (s.0 ∷ s.1)) (s.0 ∷ s.1)) digit
-      ∙ ap (λ l. front_marked (mark_at l) l) (sym s.2)
-      ∙ ap (λ o. front_marked o (chars text)) (sym (mark_bytes (chars text)) ∙ ap mark_at (encodes-chars text u))
+    ∙ ap (λ (b : Bool). if b then front_named e (s.0 ∷ s.1) else if is_digit s.0 then front_number (s.0 ∷ s.1) else front_marked (mark_at (s.0 ∷ s.1)) (s.0 ∷ s.1)) first
+    ∙ ap (λ (b : Bool). if b then front_number (s.0 ∷ s.1) else front_marked (mark_at (s.0 ∷ s.1)) (s.0 ∷ s.1)) digit
+    ∙ ap (λ l. front_marked (mark_at l) l) (sym s.2)
+    ∙ ap (λ o. front_marked o (chars text)) (sym (mark_bytes (chars text)) ∙ ap mark_at (encodes-chars text u))
 
 pub mark_front : (e : Edition) (text : List ℕ) (len : ℕ) (m : Mark) → IsUtf8 text → 0 < length text → len ≤ length text → len ≡ 0 → first_is is_start (chars text) ≡ false → take len text ≡ digits_at text →
     mark_at text ≡ Some m → (spelling more : List ℕ) × (front e (chars text) ≡ Cut (token.Mark m) spelling more) × (length (marks.spelling m) ≡ bytes_of spelling)
-mark_front e text len m u some le none start taken is =
-    (marks.spelling m, drop (length (marks.spelling m)) (chars text),
-      marked_at e text len u some le none start taken ∙ ap (λ o. front_marked o (chars text)) is, ap length (sym (mark_spelled m).bytes))
+mark_front e text len m u some le none start taken is = (
+  marks.spelling m,
+  drop (length (marks.spelling m)) (chars text),
+  marked_at e text len u some le none start taken ∙ ap (λ o. front_marked o (chars text)) is,
+  ap length (sym (mark_spelled m).bytes),
+)
 
 pub bad_front : (e : Edition) (text : List ℕ) (len : ℕ) → IsUtf8 text → 0 < length text → len ≤ length text → len ≡ 0 → first_is is_start (chars text) ≡ false → take len text ≡ digits_at text →
     mark_at text ≡ None → front e (chars text) ≡ Bad

@@ -27,7 +27,7 @@ pub body_all : (cs : List StateDecl) (rest : Tokens) → body (All cs) rest ≡ 
 body_all cs rest =
     let row = row_of (All cs) in
     ap (λ r. word words.All (mark marks.OpenBrace r))
-      (row_is_list row.0 row.1 (mark marks.CloseBrace rest) ∙ ap (λ (ds : List StateDecl). each state ds (mark marks.CloseBrace rest)) (items_hidden-the_row-StateDecl-0 cs))
+    (row_is_list row.0 row.1 (mark marks.CloseBrace rest) ∙ ap (λ (ds : List StateDecl). each state ds (mark marks.CloseBrace rest)) (items_hidden-the_row-StateDecl-0 cs))
 
 pub body_one : (f : Name) (cs : List StateDecl) (bs : List Bus) (ts : List Transition) (rest : Tokens) → body (One f cs bs ts) rest ≡
     word words.One (mark marks.OpenBrace (word words.Default (name f (mark marks.Semicolon (each state cs (each bus bs (each transition ts (mark marks.CloseBrace rest))))))))
@@ -35,7 +35,7 @@ body_one f cs bs ts rest =
     let row = row_of (One f cs bs ts) in
     let more = each bus bs (each transition ts (mark marks.CloseBrace rest)) in
     ap (λ r. word words.One (mark marks.OpenBrace (word words.Default (name f (mark marks.Semicolon r)))))
-      (row_is_list row.0 row.1 more ∙ ap (λ (ds : List StateDecl). each state ds more) (items_hidden-the_row-StateDecl-0 cs))
+    (row_is_list row.0 row.1 more ∙ ap (λ (ds : List StateDecl). each state ds more) (items_hidden-the_row-StateDecl-0 cs))
 
 -- the parts of a state with one active child are written one after another
 pub one_written : {A E : Type 0} (r : Result A E) (p q s t u v : Printer) (b : Body) (f : Name) (cs cs' : List StateDecl) (bs bs' : List Bus) (ts ts' : List Transition) →
@@ -47,11 +47,11 @@ one_written (Ok x) p q s t u v b f cs cs' bs bs' ts ts' is sc sb st w1 w2 w3 w4 
     let more = mark marks.CloseBrace rest in
     let parts : Tokens = each bus bs (each transition ts more) in
     ap (λ x. with_tokens p (body x rest)) is ∙ ap (with_tokens p) (body_one f cs bs ts rest)
-      ∙ w1 (mark marks.OpenBrace (word words.Default (name f (mark marks.Semicolon (each state cs parts)))))
-      ∙ w2 (word words.Default (name f (mark marks.Semicolon (each state cs parts))))
-      ∙ w3 (each state cs parts)
-      ∙ ap (λ l. with_tokens t (each state l parts)) (sym sc)
-      ∙ w4 parts
-      ∙ ap (λ l. with_tokens u (each bus l (each transition ts more))) (sym sb)
-      ∙ ap (λ l. with_tokens u (each bus bs' (each transition l more))) (sym st)
-      ∙ w5 rest
+    ∙ w1 (mark marks.OpenBrace (word words.Default (name f (mark marks.Semicolon (each state cs parts)))))
+    ∙ w2 (word words.Default (name f (mark marks.Semicolon (each state cs parts))))
+    ∙ w3 (each state cs parts)
+    ∙ ap (λ l. with_tokens t (each state l parts)) (sym sc)
+    ∙ w4 parts
+    ∙ ap (λ l. with_tokens u (each bus l (each transition ts more))) (sym sb)
+    ∙ ap (λ l. with_tokens u (each bus bs' (each transition l more))) (sym st)
+    ∙ w5 rest

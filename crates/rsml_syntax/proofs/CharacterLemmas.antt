@@ -25,14 +25,16 @@ neither false b h = (refl, h)
 
 pub start_continues : (c : ℕ) → is_start c ≡ true → is_continuing c ≡ true
 start_continues c h = elim (either (is_xid_start c) (c == 95) h) [
-    inl s ↦ is_xid_start-is_xid_continue c s
-  | inr u ↦ let e : c ≡ 95 = grind (arith, nat_tests) in rw e (is_xid_continue-ascii 95 (omega arith)) ]
+  | inl s ↦ is_xid_start-is_xid_continue c s
+  | inr u ↦ let e : c ≡ 95 = grind (arith, nat_tests) in rw e (is_xid_continue-ascii 95 (omega arith))
+]
 
 -- what begins a name begins neither a blank nor a number
 pub start_excludes : (c : ℕ) → is_start c ≡ true → ((c == 35 || is_white c) ≡ false) × (is_digit c ≡ false)
 start_excludes c h = elim (cases_lt c 128) [
-    inl low ↦ let e = is_xid_start-ascii c low in (grind (arith, nat_tests), grind (arith, nat_tests))
-  | inr high ↦ (grind (arith, nat_tests), grind (arith, nat_tests)) ]
+  | inl low ↦ let e = is_xid_start-ascii c low in (grind (arith, nat_tests), grind (arith, nat_tests))
+  | inr high ↦ (grind (arith, nat_tests), grind (arith, nat_tests))
+]
 
 pub digit_excludes : (c : ℕ) → is_digit c ≡ true → ((c == 35 || is_white c) ≡ false) × (is_start c ≡ false)
 digit_excludes c h =
@@ -91,22 +93,23 @@ mutual
   blanks_ahead [] cs h = refl
   blanks_ahead (c ∷ gap) cs h =
       elim (c == 35) as (λ b. elim b [ true ↦ is_comment false gap | false ↦ is_white c && are_blanks false gap ] ≡ true →
-        (if b then after_comment (gap ++ cs) else if is_white c then after_blanks (gap ++ cs) else c ∷ (gap ++ cs)) ≡ after_blanks cs)
-      [ true ↦ λ h. comment_ahead gap cs h
-      | false ↦ λ h. let k = both (is_white c) (are_blanks false gap) h in rw k.0 (blanks_ahead gap cs k.1) ] h
+      (if b then after_comment (gap ++ cs) else if is_white c then after_blanks (gap ++ cs) else c ∷ (gap ++ cs)) ≡ after_blanks cs) [
+        | true ↦ λ h. comment_ahead gap cs h
+        | false ↦ λ h. let k = both (is_white c) (are_blanks false gap) h in rw k.0 (blanks_ahead gap cs k.1)
+      ] h
 
   pub comment_ahead : (gap cs : List ℕ) → is_comment false gap ≡ true → after_comment (gap ++ cs) ≡ after_blanks cs
   comment_ahead [] cs h = absurd (cc)
   comment_ahead (c ∷ gap) cs h =
       elim (c == 10) as (λ b. elim b [ true ↦ are_blanks false gap | false ↦ is_comment false gap ] ≡ true →
-        (if b then after_blanks (gap ++ cs) else after_comment (gap ++ cs)) ≡ after_blanks cs)
+      (if b then after_blanks (gap ++ cs) else after_comment (gap ++ cs)) ≡ after_blanks cs)
       [ true ↦ λ h. blanks_ahead gap cs h | false ↦ λ h. comment_ahead gap cs h ] h
 
 -- a white character before blanks
 pub white_before : (unclosed : Bool) (c : ℕ) (cs : List ℕ) → (c == 35) ≡ false → is_white c ≡ true → are_blanks unclosed cs ≡ true → are_blanks unclosed (c ∷ cs) ≡ true
 white_before unclosed c cs e w h =
     subst (λ (b : Bool). elim b [ true ↦ is_comment unclosed cs | false ↦ is_white c && are_blanks unclosed cs ] ≡ true) (sym e)
-      (subst (λ (b : Bool). (b && are_blanks unclosed cs) ≡ true) (sym w) h)
+    (subst (λ (b : Bool). (b && are_blanks unclosed cs) ≡ true) (sym w) h)
 
 -- the blanks that a text begins with, where something follows them
 mutual
@@ -115,25 +118,28 @@ mutual
   blanks_before [] some = absurd (some refl)
   blanks_before (c ∷ cs) some =
       elim (c == 35) as (λ b. b ≡ (c == 35) → ((if b then after_comment cs else if is_white c then after_blanks cs else c ∷ cs) ≡ [] → ⊥) →
-        (gap : List ℕ) × (c ∷ cs ≡ gap ++ (if b then after_comment cs else if is_white c then after_blanks cs else c ∷ cs)) × (are_blanks false gap ≡ true)
-          × (begins_blanks (if b then after_comment cs else if is_white c then after_blanks cs else c ∷ cs) ≡ false))
-      [ true ↦ λ e some. let r = comment_before cs some in (c ∷ r.0, ap (λ l. c ∷ l) r.1, rw (← e, are_blanks) r.2, r.3)
-      | false ↦ λ e some.
-          elim (is_white c) as (λ w. w ≡ is_white c → ((if w then after_blanks cs else c ∷ cs) ≡ [] → ⊥) →
+      (gap : List ℕ) × (c ∷ cs ≡ gap ++ (if b then after_comment cs else if is_white c then after_blanks cs else c ∷ cs)) × (are_blanks false gap ≡ true)
+      × (begins_blanks (if b then after_comment cs else if is_white c then after_blanks cs else c ∷ cs) ≡ false)) [
+        | true ↦ λ e some. let r = comment_before cs some in (c ∷ r.0, ap (λ l. c ∷ l) r.1, rw (← e, are_blanks) r.2, r.3)
+        | false ↦ λ e some.
+            elim (is_white c) as (λ w. w ≡ is_white c → ((if w then after_blanks cs else c ∷ cs) ≡ [] → ⊥) →
             (gap : List ℕ) × (c ∷ cs ≡ gap ++ (if w then after_blanks cs else c ∷ cs)) × (are_blanks false gap ≡ true)
-              × (begins_blanks (if w then after_blanks cs else c ∷ cs) ≡ false))
-          [ true ↦ λ w some. let r = blanks_before cs some in (c ∷ r.0, ap (λ l. c ∷ l) r.1, white_before false c r.0 (sym e) (sym w) r.2, r.3)
-          | false ↦ λ w some. ([], refl, refl, ap (λ b. b || is_white c) (sym e) ∙ sym w) ] refl some ] refl some
+            × (begins_blanks (if w then after_blanks cs else c ∷ cs) ≡ false)) [
+              | true ↦ λ w some. let r = blanks_before cs some in (c ∷ r.0, ap (λ l. c ∷ l) r.1, white_before false c r.0 (sym e) (sym w) r.2, r.3)
+              | false ↦ λ w some. ([], refl, refl, ap (λ b. b || is_white c) (sym e) ∙ sym w)
+            ] refl some
+      ] refl some
 
   pub comment_before : (cs : List ℕ) → (after_comment cs ≡ [] → ⊥) →
       (gap : List ℕ) × (cs ≡ gap ++ after_comment cs) × (is_comment false gap ≡ true) × (begins_blanks (after_comment cs) ≡ false)
   comment_before [] some = absurd (some refl)
   comment_before (c ∷ cs) some =
       elim (c == 10) as (λ b. b ≡ (c == 10) → ((if b then after_blanks cs else after_comment cs) ≡ [] → ⊥) →
-        (gap : List ℕ) × (c ∷ cs ≡ gap ++ (if b then after_blanks cs else after_comment cs)) × (is_comment false gap ≡ true)
-          × (begins_blanks (if b then after_blanks cs else after_comment cs) ≡ false))
-      [ true ↦ λ e some. let r = blanks_before cs some in (c ∷ r.0, ap (λ l. c ∷ l) r.1, rw (← e, is_comment) r.2, r.3)
-      | false ↦ λ e some. let r = comment_before cs some in (c ∷ r.0, ap (λ l. c ∷ l) r.1, rw (← e, is_comment) r.2, r.3) ] refl some
+      (gap : List ℕ) × (c ∷ cs ≡ gap ++ (if b then after_blanks cs else after_comment cs)) × (is_comment false gap ≡ true)
+      × (begins_blanks (if b then after_blanks cs else after_comment cs) ≡ false)) [
+        | true ↦ λ e some. let r = blanks_before cs some in (c ∷ r.0, ap (λ l. c ∷ l) r.1, rw (← e, is_comment) r.2, r.3)
+        | false ↦ λ e some. let r = comment_before cs some in (c ∷ r.0, ap (λ l. c ∷ l) r.1, rw (← e, is_comment) r.2, r.3)
+      ] refl some
 
 -- nothing but blanks, of which the last may be a comment that is left open
 mutual
@@ -141,16 +147,17 @@ mutual
   blanks_only [] h = refl
   blanks_only (c ∷ cs) h =
       elim (c == 35) as (λ b. (if b then after_comment cs else if is_white c then after_blanks cs else c ∷ cs) ≡ [] →
-        elim b [ true ↦ is_comment true cs | false ↦ is_white c && are_blanks true cs ] ≡ true)
-      [ true ↦ λ h. comment_only cs h
-      | false ↦ λ h. elim (is_white c) as (λ w. (if w then after_blanks cs else c ∷ cs) ≡ [] → (w && are_blanks true cs) ≡ true)
-          [ true ↦ λ h. blanks_only cs h | false ↦ λ h. absurd (cc) ] h ] h
+      elim b [ true ↦ is_comment true cs | false ↦ is_white c && are_blanks true cs ] ≡ true) [
+        | true ↦ λ h. comment_only cs h
+        | false ↦ λ h. elim (is_white c) as (λ w. (if w then after_blanks cs else c ∷ cs) ≡ [] → (w && are_blanks true cs) ≡ true)
+            [ true ↦ λ h. blanks_only cs h | false ↦ λ h. absurd (cc) ] h
+      ] h
 
   pub comment_only : (cs : List ℕ) → after_comment cs ≡ [] → is_comment true cs ≡ true
   comment_only [] h = refl
   comment_only (c ∷ cs) h =
       elim (c == 10) as (λ b. (if b then after_blanks cs else after_comment cs) ≡ [] →
-        elim b [ true ↦ are_blanks true cs | false ↦ is_comment true cs ] ≡ true)
+      elim b [ true ↦ are_blanks true cs | false ↦ is_comment true cs ] ≡ true)
       [ true ↦ λ h. blanks_only cs h | false ↦ λ h. comment_only cs h ] h
 
 mutual
@@ -158,15 +165,16 @@ mutual
   blanks_to_end [] h = refl
   blanks_to_end (c ∷ cs) h =
       elim (c == 35) as (λ b. elim b [ true ↦ is_comment true cs | false ↦ is_white c && are_blanks true cs ] ≡ true →
-        (if b then after_comment cs else if is_white c then after_blanks cs else c ∷ cs) ≡ [])
-      [ true ↦ λ h. comment_to_end cs h
-      | false ↦ λ h. let k = both (is_white c) (are_blanks true cs) h in rw k.0 (blanks_to_end cs k.1) ] h
+      (if b then after_comment cs else if is_white c then after_blanks cs else c ∷ cs) ≡ []) [
+        | true ↦ λ h. comment_to_end cs h
+        | false ↦ λ h. let k = both (is_white c) (are_blanks true cs) h in rw k.0 (blanks_to_end cs k.1)
+      ] h
 
   pub comment_to_end : (cs : List ℕ) → is_comment true cs ≡ true → after_comment cs ≡ []
   comment_to_end [] h = refl
   comment_to_end (c ∷ cs) h =
       elim (c == 10) as (λ b. elim b [ true ↦ are_blanks true cs | false ↦ is_comment true cs ] ≡ true →
-        (if b then after_blanks cs else after_comment cs) ≡ [])
+      (if b then after_blanks cs else after_comment cs) ≡ [])
       [ true ↦ λ h. blanks_to_end cs h | false ↦ λ h. comment_to_end cs h ] h
 
 -- what begins with no blank is left as it is

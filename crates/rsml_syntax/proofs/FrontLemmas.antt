@@ -43,9 +43,9 @@ name_cut e t (c ∷ s) more is n stop =
     let r = split_again is_continuing (c ∷ s) more (rw (start_continues c h.0) h.1) stop in
     record {
       cut = ap (λ (b : Bool). if b then front_named e (c ∷ (s ++ more)) else if is_digit c then front_number (c ∷ (s ++ more)) else front_marked (mark_at (c ∷ (s ++ more))) (c ∷ (s ++ more))) h.0
-        ∙ ap (λ l. Cut (named e (encode_utf8_all l)) l (after_passing is_continuing (c ∷ (s ++ more)))) r.0
-        ∙ ap (λ l. Cut (named e (encode_utf8_all (c ∷ s))) (c ∷ s) l) r.1
-        ∙ ap (λ u. Cut u (c ∷ s) more) n;
+          ∙ ap (λ l. Cut (named e (encode_utf8_all l)) l (after_passing is_continuing (c ∷ (s ++ more)))) r.0
+          ∙ ap (λ l. Cut (named e (encode_utf8_all (c ∷ s))) (c ∷ s) l) r.1
+          ∙ ap (λ u. Cut u (c ∷ s) more) n;
       no_blank = (start_excludes c h.0).0;
       some = omega arith;
     }
@@ -60,11 +60,11 @@ number_cut e n (c ∷ s) more is v small stop =
     let fits : nat_le (digits_value (c ∷ s)) greatest_number ≡ true = grind (arith, nat_tests) in
     record {
       cut = ap (λ (b : Bool). if b then front_named e (c ∷ (s ++ more)) else if is_digit c then front_number (c ∷ (s ++ more)) else front_marked (mark_at (c ∷ (s ++ more))) (c ∷ (s ++ more))) (digit_excludes c h.0).1
-        ∙ ap (λ (b : Bool). if b then front_number (c ∷ (s ++ more)) else front_marked (mark_at (c ∷ (s ++ more))) (c ∷ (s ++ more))) h.0
-        ∙ ap (λ l. (if nat_le (digits_value l) greatest_number then Cut (token.Number (digits_value l)) l (after_passing is_digit (c ∷ (s ++ more))) else TooBig)) d
-        ∙ ap (λ (b : Bool). (if b then Cut (token.Number (digits_value (c ∷ s))) (c ∷ s) (after_passing is_digit (c ∷ (s ++ more))) else TooBig)) fits
-        ∙ ap (λ l. Cut (token.Number (digits_value (c ∷ s))) (c ∷ s) l) r.1
-        ∙ ap (λ k. Cut (token.Number k) (c ∷ s) more) v;
+          ∙ ap (λ (b : Bool). if b then front_number (c ∷ (s ++ more)) else front_marked (mark_at (c ∷ (s ++ more))) (c ∷ (s ++ more))) h.0
+          ∙ ap (λ l. (if nat_le (digits_value l) greatest_number then Cut (token.Number (digits_value l)) l (after_passing is_digit (c ∷ (s ++ more))) else TooBig)) d
+          ∙ ap (λ (b : Bool). (if b then Cut (token.Number (digits_value (c ∷ s))) (c ∷ s) (after_passing is_digit (c ∷ (s ++ more))) else TooBig)) fits
+          ∙ ap (λ l. Cut (token.Number (digits_value (c ∷ s))) (c ∷ s) l) r.1
+          ∙ ap (λ k. Cut (token.Number k) (c ∷ s) more) v;
       no_blank = (digit_excludes c h.0).0;
       some = omega arith;
     }
@@ -82,8 +82,8 @@ mark_cut e m more h =
     let whole : marks.spelling m ++ more ≡ s.head ∷ (s.tail ++ more) = ap (λ l. l ++ more) s.parts in
     record {
       cut = ap (front e) whole ∙ at_mark e s.head (s.tail ++ more) s.no_name s.no_digit ∙ ap (λ l. front_marked (mark_at l) l) (sym whole)
-        ∙ ap (λ o. front_marked o (marks.spelling m ++ more)) (mark_again m more h)
-        ∙ ap (λ l. Cut (token.Mark m) (marks.spelling m) l) (drop_at (marks.spelling m) more (length (marks.spelling m)) refl);
+          ∙ ap (λ o. front_marked o (marks.spelling m ++ more)) (mark_again m more h)
+          ∙ ap (λ l. Cut (token.Mark m) (marks.spelling m) l) (drop_at (marks.spelling m) more (length (marks.spelling m)) refl);
       no_blank = ap begins_blanks whole ∙ s.no_blank;
       some = omega (arith, ap length s.parts);
     }
@@ -92,7 +92,7 @@ mark_cut e m more h =
 pub token_cut : (e : Edition) (t : Token) (s more : List ℕ) → Spells e t s → ends t more ≡ true → IsCut e t s more
 token_cut e (token.Word w) s more h stop =
     subst (λ (l : List ℕ). IsCut e (token.Word w) l more) (sym h.0)
-      (name_cut e (token.Word w) (words.spelling w) more (word_is_name w) (ap (named e) (word_spelled w).bytes ∙ named_word e w h.1) (not_true (first_is is_continuing more) stop))
+    (name_cut e (token.Word w) (words.spelling w) more (word_is_name w) (ap (named e) (word_spelled w).bytes ∙ named_word e w h.1) (not_true (first_is is_continuing more) stop))
 token_cut e (token.Name name) s more h stop =
     name_cut e (token.Name name) s more h.1 (ap (named e) (sym h.0) ∙ named_name e name h.2) (not_true (first_is is_continuing more) stop)
 token_cut e (token.Number n) s more h stop = number_cut e n s more h.0 h.1 h.2 (not_true (first_is is_digit more) stop)
@@ -110,11 +110,12 @@ pub big_front : (e : Edition) (next : List ℕ) → first_is is_digit next ≡ t
 unfolding front
 big_front e [] is big = absurd (cc)
 big_front e (c ∷ cs) is big =
-    let fits : nat_le (digits_value (digits_at (c ∷ cs))) greatest_number ≡ false = too_big (digits_value (digits_at (c ∷ cs))) big in
-    (ap (λ (b : Bool). if b then front_named e (c ∷ cs) else if is_digit c then front_number (c ∷ cs) else front_marked (mark_at (c ∷ cs)) (c ∷ cs)) (digit_excludes c is).1
-      ∙ ap (λ (b : Bool). if b then front_number (c ∷ cs) else front_marked (mark_at (c ∷ cs)) (c ∷ cs)) is
-      ∙ ap (λ (b : Bool). (if b then Cut (token.Number (digits_value (digits_at (c ∷ cs)))) (digits_at (c ∷ cs)) (after_passing is_digit (c ∷ cs)) else TooBig)) fits,
-     (digit_excludes c is).0)
+    let fits : nat_le (digits_value (digits_at (c ∷ cs))) greatest_number ≡ false = too_big (digits_value (digits_at (c ∷ cs))) big in (
+      ap (λ (b : Bool). if b then front_named e (c ∷ cs) else if is_digit c then front_number (c ∷ cs) else front_marked (mark_at (c ∷ cs)) (c ∷ cs)) (digit_excludes c is).1
+          ∙ ap (λ (b : Bool). if b then front_number (c ∷ cs) else front_marked (mark_at (c ∷ cs)) (c ∷ cs)) is
+          ∙ ap (λ (b : Bool). (if b then Cut (token.Number (digits_value (digits_at (c ∷ cs)))) (digits_at (c ∷ cs)) (after_passing is_digit (c ∷ cs)) else TooBig)) fits,
+      (digit_excludes c is).0,
+    )
   where
     too_big : (n : ℕ) → greatest_number < n → nat_le n greatest_number ≡ false
     too_big n h = grind (arith, nat_tests)
@@ -161,9 +162,11 @@ front_means e (c ∷ cs) = step (is_start c) refl
     counted : (b : Bool) → b ≡ nat_le (digits_value (digits_at (c ∷ cs))) greatest_number → is_digit c ≡ true →
         Means e (c ∷ cs) (if b then Cut (token.Number (digits_value (digits_at (c ∷ cs)))) (digits_at (c ∷ cs)) (after_passing is_digit (c ∷ cs)) else TooBig)
     counted true same is =
-        let fits : digits_value (digits_at (c ∷ cs)) ≤ greatest_number = grind (arith, nat_tests) in
-        (split_whole is_digit (c ∷ cs) ∙ ap (λ l. l ++ after_passing is_digit (c ∷ cs)) (sym (digits_split (c ∷ cs))),
-          (digits_are c cs is, refl, fits), not_false _ (split_ends is_digit (c ∷ cs)))
+        let fits : digits_value (digits_at (c ∷ cs)) ≤ greatest_number = grind (arith, nat_tests) in (
+          split_whole is_digit (c ∷ cs) ∙ ap (λ l. l ++ after_passing is_digit (c ∷ cs)) (sym (digits_split (c ∷ cs))),
+          (digits_are c cs is, refl, fits),
+          not_false _ (split_ends is_digit (c ∷ cs)),
+        )
     counted false same is = (is, grind (arith, nat_tests))
 
     digit : (b : Bool) → b ≡ is_digit c → is_start c ≡ false → Means e (c ∷ cs) (if b then front_number (c ∷ cs) else front_marked (mark_at (c ∷ cs)) (c ∷ cs))
@@ -171,7 +174,9 @@ front_means e (c ∷ cs) = step (is_start c) refl
     digit false same a = marked (mark_at (c ∷ cs)) refl a (sym same)
 
     step : (b : Bool) → b ≡ is_start c → Means e (c ∷ cs) (if b then front_named e (c ∷ cs) else if is_digit c then front_number (c ∷ cs) else front_marked (mark_at (c ∷ cs)) (c ∷ cs))
-    step true same =
-        (split_whole is_continuing (c ∷ cs), named_spelled e (passing is_continuing (c ∷ cs)) (passing_name c cs (sym same)),
-          named_ends e (encode_utf8_all (passing is_continuing (c ∷ cs))) (after_passing is_continuing (c ∷ cs)) (split_ends is_continuing (c ∷ cs)))
+    step true same = (
+      split_whole is_continuing (c ∷ cs),
+      named_spelled e (passing is_continuing (c ∷ cs)) (passing_name c cs (sym same)),
+      named_ends e (encode_utf8_all (passing is_continuing (c ∷ cs))) (after_passing is_continuing (c ∷ cs)) (split_ends is_continuing (c ∷ cs)),
+    )
     step false same = digit (is_digit c) refl (sym same)

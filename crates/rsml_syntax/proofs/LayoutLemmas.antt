@@ -166,8 +166,9 @@ opens_ends a m more is h = subst (λ (t : Token). ends t more ≡ true) (sym (is
 -- no name begins with a dot
 no_dot : (c : ℕ) → is_start c ≡ true → (46 == c) ≡ false
 no_dot c h = elim (46 == c) as (λ b. (46 == c) ≡ b → (46 == c) ≡ false) [
-    true ↦ λ e. absurd (let same : 46 ≡ c = grind (arith, nat_tests) in let s = sym h ∙ ap is_start (sym same) ∙ is_xid_start_dot in cc)
-  | false ↦ λ e. e ] refl
+  | true ↦ λ e. absurd (let same : 46 ≡ c = grind (arith, nat_tests) in let s = sym h ∙ ap is_start (sym same) ∙ is_xid_start_dot in cc)
+  | false ↦ λ e. e
+] refl
   where
     is_xid_start_dot : is_start 46 ≡ false
     is_xid_start_dot = rw (is_xid_start-ascii 46 (lit< tt)) refl
@@ -196,8 +197,9 @@ before_dot e a b s more h spelled =
     let k = both (is_mark mark.Dot b) (is_a_name a || is_mark mark.CloseBracket a) h in
     let same : s ≡ marks.spelling mark.Dot = subst (λ (t : Token). Spells e t s) (is_the_mark mark.Dot b k.0) spelled in
     subst (λ (l : List ℕ). ends a (l ++ more) ≡ true) (sym same) (elim (either (is_a_name a) (is_mark mark.CloseBracket a) k.1) [
-      inl name ↦ named a name
-    | inr bracket ↦ opens_ends a mark.CloseBracket (46 ∷ more) bracket refl ])
+      | inl name ↦ named a name
+      | inr bracket ↦ opens_ends a mark.CloseBracket (46 ∷ more) bracket refl
+    ])
   where
     named : (a : Token) → is_a_name a ≡ true → ends a (46 ∷ more) ≡ true
     named (token.Word w) is = absurd (cc)
@@ -211,28 +213,36 @@ closed_ends : (e : Edition) (a b : Token) (s more : List ℕ) →
 unfolding marks.spelling
 closed_ends e a b s more h spelled =
     elim (either (is_mark mark.Semicolon b || is_mark mark.Comma b || is_mark mark.OpenBracket b || is_mark mark.CloseBracket b) (is_mark mark.CloseParen b) h) [
-      inr h ↦ mark_closes e a b mark.CloseParen s more 41 h spelled refl (ascii_closes 41 (lit< tt) refl refl)
-    | inl h ↦ elim (either (is_mark mark.Semicolon b || is_mark mark.Comma b || is_mark mark.OpenBracket b) (is_mark mark.CloseBracket b) h) [
-      inr h ↦ mark_closes e a b mark.CloseBracket s more 93 h spelled refl (ascii_closes 93 (lit< tt) refl refl)
-    | inl h ↦ elim (either (is_mark mark.Semicolon b || is_mark mark.Comma b) (is_mark mark.OpenBracket b) h) [
-      inr h ↦ mark_closes e a b mark.OpenBracket s more 91 h spelled refl (ascii_closes 91 (lit< tt) refl refl)
-    | inl h ↦ elim (either (is_mark mark.Semicolon b) (is_mark mark.Comma b) h) [
-      inr h ↦ mark_closes e a b mark.Comma s more 44 h spelled refl (ascii_closes 44 (lit< tt) refl refl)
-    | inl h ↦ mark_closes e a b mark.Semicolon s more 59 h spelled refl (ascii_closes 59 (lit< tt) refl refl) ] ] ] ]
+      | inr h ↦ mark_closes e a b mark.CloseParen s more 41 h spelled refl (ascii_closes 41 (lit< tt) refl refl)
+      | inl h ↦ elim (either (is_mark mark.Semicolon b || is_mark mark.Comma b || is_mark mark.OpenBracket b) (is_mark mark.CloseBracket b) h) [
+        | inr h ↦ mark_closes e a b mark.CloseBracket s more 93 h spelled refl (ascii_closes 93 (lit< tt) refl refl)
+        | inl h ↦ elim (either (is_mark mark.Semicolon b || is_mark mark.Comma b) (is_mark mark.OpenBracket b) h) [
+          | inr h ↦ mark_closes e a b mark.OpenBracket s more 91 h spelled refl (ascii_closes 91 (lit< tt) refl refl)
+          | inl h ↦ elim (either (is_mark mark.Semicolon b) (is_mark mark.Comma b) h) [
+            | inr h ↦ mark_closes e a b mark.Comma s more 44 h spelled refl (ascii_closes 44 (lit< tt) refl refl)
+            | inl h ↦ mark_closes e a b mark.Semicolon s more 59 h spelled refl (ascii_closes 59 (lit< tt) refl refl)
+          ]
+        ]
+      ]
+    ]
 
 -- what joins the token before it ends that
 joined_ends : (e : Edition) (a b : Token) (s more : List ℕ) → joins a b ≡ true → Spells e b s → ends a (s ++ more) ≡ true
 unfolding marks.spelling
 joined_ends e a b s more h spelled =
     elim (either (close || is_mark mark.OpenBracket a || is_mark mark.OpenParen a || (is_mark mark.Dot b && (is_a_name a || is_mark mark.CloseBracket a))) (is_mark mark.Dot a && is_a_name b) h) [
-      inr h ↦ dot_ends e a b s more h spelled
-    | inl h ↦ elim (either (close || is_mark mark.OpenBracket a || is_mark mark.OpenParen a) (is_mark mark.Dot b && (is_a_name a || is_mark mark.CloseBracket a)) h) [
-      inr h ↦ before_dot e a b s more h spelled
-    | inl h ↦ elim (either (close || is_mark mark.OpenBracket a) (is_mark mark.OpenParen a) h) [
-      inr h ↦ opens_ends a mark.OpenParen (s ++ more) h refl
-    | inl h ↦ elim (either close (is_mark mark.OpenBracket a) h) [
-      inr h ↦ opens_ends a mark.OpenBracket (s ++ more) h refl
-    | inl h ↦ closed_ends e a b s more h spelled ] ] ] ]
+      | inr h ↦ dot_ends e a b s more h spelled
+      | inl h ↦ elim (either (close || is_mark mark.OpenBracket a || is_mark mark.OpenParen a) (is_mark mark.Dot b && (is_a_name a || is_mark mark.CloseBracket a)) h) [
+        | inr h ↦ before_dot e a b s more h spelled
+        | inl h ↦ elim (either (close || is_mark mark.OpenBracket a) (is_mark mark.OpenParen a) h) [
+          | inr h ↦ opens_ends a mark.OpenParen (s ++ more) h refl
+          | inl h ↦ elim (either close (is_mark mark.OpenBracket a) h) [
+            | inr h ↦ opens_ends a mark.OpenBracket (s ++ more) h refl
+            | inl h ↦ closed_ends e a b s more h spelled
+          ]
+        ]
+      ]
+    ]
   where
     close : Bool
     close = is_mark mark.Semicolon b || is_mark mark.Comma b || is_mark mark.OpenBracket b || is_mark mark.CloseBracket b || is_mark mark.CloseParen b
@@ -256,17 +266,20 @@ line_spaces n = let r = spaces n in record { blank = white_before false 10 (repl
 between_is_space : (depth : ℕ) (a b : Token) → IsSpace (space_between depth a b)
 unfolding encode
 between_is_space depth a b = elim (breaks_line a b) as (λ x. IsSpace (if x then new_line (if is_mark mark.CloseBrace b then depth - 1 else depth) else if joins a b then [] else 32 ∷ [])) [
-    true ↦ line_spaces (2 * (if is_mark mark.CloseBrace b then depth - 1 else depth))
-  | false ↦ elim (joins a b) as (λ y. IsSpace (if y then [] else 32 ∷ [])) [ true ↦ spaces 0 | false ↦ spaces 1 ] ]
+  | true ↦ line_spaces (2 * (if is_mark mark.CloseBrace b then depth - 1 else depth))
+  | false ↦ elim (joins a b) as (λ y. IsSpace (if y then [] else 32 ∷ [])) [ true ↦ spaces 0 | false ↦ spaces 1 ]
+]
 
 -- the token ends where the space and the next token follow
 between_ends : (e : Edition) (depth : ℕ) (a b : Token) (s more : List ℕ) → Spells e b s → ends a (space_between depth a b ++ (s ++ more)) ≡ true
 between_ends e depth a b s more spelled =
     elim (breaks_line a b) as (λ x. ends a ((if x then new_line (if is_mark mark.CloseBrace b then depth - 1 else depth) else if joins a b then [] else 32 ∷ []) ++ (s ++ more)) ≡ true) [
-      true ↦ ends_before a 10 _ line_closes
-    | false ↦ elim (joins a b) as (λ y. joins a b ≡ y → ends a ((if y then [] else 32 ∷ []) ++ (s ++ more)) ≡ true) [
-        true ↦ λ h. joined_ends e a b s more h spelled
-      | false ↦ λ h. ends_before a 32 _ space_closes ] refl ]
+      | true ↦ ends_before a 10 _ line_closes
+      | false ↦ elim (joins a b) as (λ y. joins a b ≡ y → ends a ((if y then [] else 32 ∷ []) ++ (s ++ more)) ≡ true) [
+        | true ↦ λ h. joined_ends e a b s more h spelled
+        | false ↦ λ h. ends_before a 32 _ space_closes
+      ] refl
+    ]
 
 -- The layout, token by token.
 
@@ -290,11 +303,15 @@ unfolding encode
 laid e depth at a [] is =
     let w = written e a is.0 in
     record {
-      spelling = w.chars; more = 10 ∷ [];
+      spelling = w.chars;
+      more = 10 ∷ [];
       scalars = scalars-append w.chars (10 ∷ []) w.scalars refl;
       bytes = ap (λ l. l ++ (10 ∷ [])) w.bytes ∙ sym (encodes-append w.chars (10 ∷ []));
-      spells = w.spells; ended = ends_before a 10 [] line_closes;
-      placed = []; scans = refl; same = refl;
+      spells = w.spells;
+      ended = ends_before a 10 [] line_closes;
+      placed = [];
+      scans = refl;
+      same = refl;
     }
 laid e depth at a (b ∷ ts) is =
     let w = written e a is.0 in
@@ -303,14 +320,16 @@ laid e depth at a (b ∷ ts) is =
     let r = laid e (open_after depth a) (at + bytes_of w.chars + bytes_of gap) b ts is.1 in
     let place : Placed = record { token = b; at = at + bytes_of w.chars + bytes_of gap } in
     record {
-      spelling = w.chars; more = gap ++ (r.spelling ++ r.more);
+      spelling = w.chars;
+      more = gap ++ (r.spelling ++ r.more);
       scalars = scalars-append w.chars (gap ++ (r.spelling ++ r.more)) w.scalars (scalars-append gap (r.spelling ++ r.more) g.scalars r.scalars);
       bytes = ap (λ l. text_of a ++ (gap ++ l)) r.bytes
-        ∙ ap (λ l. l ++ (gap ++ encode_utf8_all (r.spelling ++ r.more))) w.bytes
-        ∙ ap (λ l. encode_utf8_all w.chars ++ (l ++ encode_utf8_all (r.spelling ++ r.more))) (sym g.bytes)
-        ∙ ap (λ l. encode_utf8_all w.chars ++ l) (sym (encodes-append gap (r.spelling ++ r.more)))
-        ∙ sym (encodes-append w.chars (gap ++ (r.spelling ++ r.more)));
-      spells = w.spells; ended = between_ends e (open_after depth a) a b r.spelling r.more r.spells;
+          ∙ ap (λ l. l ++ (gap ++ encode_utf8_all (r.spelling ++ r.more))) w.bytes
+          ∙ ap (λ l. encode_utf8_all w.chars ++ (l ++ encode_utf8_all (r.spelling ++ r.more))) (sym g.bytes)
+          ∙ ap (λ l. encode_utf8_all w.chars ++ l) (sym (encodes-append gap (r.spelling ++ r.more)))
+          ∙ sym (encodes-append w.chars (gap ++ (r.spelling ++ r.more)));
+      spells = w.spells;
+      ended = between_ends e (open_after depth a) a b r.spelling r.more r.spells;
       placed = place ∷ r.placed;
       scans = (gap, r.spelling, r.more, refl, g.blank, refl, r.spells, r.ended, r.scans);
       same = ap (λ l. b ∷ l) r.same;
@@ -321,7 +340,8 @@ pub layout_lexes : (e : Edition) (ts : Tokens) → AreTokens e ts → (ps : List
 layout_lexes e [] is = ([], ([], refl, refl, ([], refl, refl)), refl)
 layout_lexes e (a ∷ ts) is =
     let r = laid e 0 0 a ts is in
-    let first : Placed = record { token = a; at = 0 } in
-    (first ∷ r.placed,
+    let first : Placed = record { token = a; at = 0 } in (
+      first ∷ r.placed,
       (r.spelling ++ r.more, r.scalars, r.bytes, (10 ∷ [], ([], r.spelling, r.more, refl, refl, refl, r.spells, r.ended, r.scans), refl)),
-      ap (λ l. a ∷ l) r.same)
+      ap (λ l. a ∷ l) r.same,
+    )

@@ -28,7 +28,7 @@ pub two_more : (text old : List ℕ) (n : ℕ) → text ≡ old ++ (10 ∷ repli
 two_more text old n h =
     let k : 2 * n + 2 ≡ 2 * (n + 1) = omega arith in
     ap (λ l. l ++ (32 ∷ 32 ∷ [])) h ∙ append_assoc old (10 ∷ replicate (2 * n) 32) (32 ∷ 32 ∷ [])
-      ∙ ap (λ l. old ++ (10 ∷ l)) (replicate-append-replicate (2 * n) 2 32 ∙ ap (λ m. replicate m 32) k)
+    ∙ ap (λ l. old ++ (10 ∷ l)) (replicate-append-replicate (2 * n) 2 32 ∙ ap (λ m. replicate m 32) k)
 
 -- the space between tokens goes by their kinds
 before_like : (depth : ℕ) (last : Option Kind) (t : Token) → space_before depth last (token_like (kind_of t)) ≡ space_before depth last t
@@ -48,10 +48,10 @@ wrote old new t spelling spelled text depth last rest =
     let gap = space_before old.depth old.last t in
     let is : new.text.items ≡ old.text.items ++ (gap ++ text_of t) = text ∙ ap (λ l. old.text.items ++ (l ++ spelling)) (before_like old.depth old.last t) ∙ ap (λ l. old.text.items ++ (gap ++ l)) (sym spelled) in
     sym (ap (λ l. l ++ added new.depth new.last rest) is
-      ∙ ap (λ d. old.text.items ++ (gap ++ text_of t) ++ added d new.last rest) depth
-      ∙ ap (λ k. old.text.items ++ (gap ++ text_of t) ++ added (open_after old.depth t) k rest) last
-      ∙ append_assoc old.text.items (gap ++ text_of t) more
-      ∙ ap (λ l. old.text.items ++ l) (append_assoc gap (text_of t) more))
+    ∙ ap (λ d. old.text.items ++ (gap ++ text_of t) ++ added d new.last rest) depth
+    ∙ ap (λ k. old.text.items ++ (gap ++ text_of t) ++ added (open_after old.depth t) k rest) last
+    ∙ append_assoc old.text.items (gap ++ text_of t) more
+    ∙ ap (λ l. old.text.items ++ l) (append_assoc gap (text_of t) more))
 
 -- the same for what may fail
 pub wrote_on_ok : {A E : Type 0} (r : Result A E) (old new : Printer) (t : Token) (spelling : List ℕ) → text_of t ≡ spelling →
@@ -89,9 +89,9 @@ new_layout p t ts text depth last =
         let d = open_after depth a in
         let more = text_of b ++ added (open_after d b) (Some (kind_of b)) ts in
         append_assoc (text_of a) (space_between d (token_like (kind_of a)) b ++ more) (10 ∷ [])
-          ∙ ap (λ l. text_of a ++ l) (append_assoc (space_between d (token_like (kind_of a)) b) more (10 ∷ []))
-          ∙ ap (λ l. text_of a ++ (l ++ (more ++ (10 ∷ [])))) (between_like d a b)
-          ∙ ap (λ l. text_of a ++ (space_between d a b ++ l)) (laid d b ts)
+        ∙ ap (λ l. text_of a ++ l) (append_assoc (space_between d (token_like (kind_of a)) b) more (10 ∷ []))
+        ∙ ap (λ l. text_of a ++ (l ++ (more ++ (10 ∷ [])))) (between_like d a b)
+        ∙ ap (λ l. text_of a ++ (space_between d a b ++ l)) (laid d b ts)
 
 -- all of a specification is written, and nothing else
 pub printed_layout : {A : Type 0} (r : Result A NoMemory) (view : A → List ℕ) (s : Spec) (p q : Printer) → p.text.items ≡ [] → p.depth ≡ 0 → p.last ≡ None →

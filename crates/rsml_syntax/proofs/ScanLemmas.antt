@@ -197,8 +197,9 @@ lexes_or_faults e bytes ts f h k = differ f k
 
 pub after_within : (rest : List ℕ) → bytes_of (after_blanks rest) ≤ bytes_of rest
 after_within rest = elim (is_nil (after_blanks rest)) [
-    inl none ↦ omega (arith, ap bytes_of none)
-  | inr some ↦ let b = blanks_before rest some in omega (arith, ap bytes_of b.1, bytes_of-append b.0 (after_blanks rest)) ]
+  | inl none ↦ omega (arith, ap bytes_of none)
+  | inr some ↦ let b = blanks_before rest some in omega (arith, ap bytes_of b.1, bytes_of-append b.0 (after_blanks rest))
+]
   where
     is_nil : (l : List ℕ) → (l ≡ []) ⊎ (l ≡ [] → ⊥)
     is_nil [] = inl refl
@@ -243,15 +244,16 @@ unfolding front
 scan zero e at [] le = ([], [], refl, refl)
 scan zero e at (c ∷ cs) le = absurd (omega arith)
 scan (suc n) e at cs le =
-    elim (next e cs) as (λ f. next e cs ≡ f → (ts : List Placed) × (rest : List ℕ) × Scans e at cs ts rest × (stops (next e rest) ≡ true))
-    [ Nothing ↦ λ is. ([], cs, refl, ap stops is)
-    | Cut t s more ↦ λ is.
-        let k = next_token e cs s more t is in
-        let some = (token_next e cs k.0 s more t k.1 k.2 k.3 k.4).2 in
-        let r = scan n e (at + bytes_of k.0 + bytes_of s) more (omega (arith, le, some, ap length k.1, length-append k.0 (s ++ more), length-append s more)) in
-        (placed t (at + bytes_of k.0) ∷ r.0, r.1, (k.0, s, more, k.1, k.2, refl, k.3, k.4, r.2), r.3)
-    | TooBig ↦ λ is. ([], cs, refl, ap stops is)
-    | Bad ↦ λ is. ([], cs, refl, ap stops is) ] refl
+    elim (next e cs) as (λ f. next e cs ≡ f → (ts : List Placed) × (rest : List ℕ) × Scans e at cs ts rest × (stops (next e rest) ≡ true)) [
+      | Nothing ↦ λ is. ([], cs, refl, ap stops is)
+      | Cut t s more ↦ λ is.
+          let k = next_token e cs s more t is in
+          let some = (token_next e cs k.0 s more t k.1 k.2 k.3 k.4).2 in
+          let r = scan n e (at + bytes_of k.0 + bytes_of s) more (omega (arith, le, some, ap length k.1, length-append k.0 (s ++ more), length-append s more)) in
+          (placed t (at + bytes_of k.0) ∷ r.0, r.1, (k.0, s, more, k.1, k.2, refl, k.3, k.4, r.2), r.3)
+      | TooBig ↦ λ is. ([], cs, refl, ap stops is)
+      | Bad ↦ λ is. ([], cs, refl, ap stops is)
+    ] refl
 
 front_utf8 : (bs : List ℕ) (n : ℕ) → IsUtf8 (take (valid_len_up_to bs n) bs)
 front_utf8 bs zero = IsUtf8-nil
@@ -268,8 +270,9 @@ front_characters bytes = let u = front_utf8 bytes (length bytes) in (u.0, u.1.0,
 pub whole_or_broken : (e : Edition) (bytes cs : List ℕ) (ts : List Placed) → all_scalars cs ≡ true → front_of bytes ≡ encode_utf8_all cs → ScansWhole e cs ts →
     Lexes e bytes ts ⊎ LexFault e bytes (NotUtf8 (utf8_valid_len bytes))
 whole_or_broken e bytes cs ts scalar is h = elim (cases_lt (utf8_valid_len bytes) (length bytes)) [
-    inl short ↦ inr (cs, ts, scalar, is, h, refl, short)
-  | inr all ↦ inl (cs, scalar, sym (take_all (utf8_valid_len bytes) bytes all) ∙ is, h) ]
+  | inl short ↦ inr (cs, ts, scalar, is, h, refl, short)
+  | inr all ↦ inl (cs, scalar, sym (take_all (utf8_valid_len bytes) bytes all) ∙ is, h)
+]
 
 pub lexes_or_fails : (e : Edition) (bytes : List ℕ) → ((ts : List Placed) × Lexes e bytes ts) ⊎ ((f : Fault) × LexFault e bytes f)
 lexes_or_fails e bytes =

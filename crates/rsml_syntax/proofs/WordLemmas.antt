@@ -129,7 +129,7 @@ letters_continue (c ∷ cs) h =
     letter_starts : (c : ℕ) → is_ascii_alphabetic c ≡ true → is_start c ≡ true
     letter_starts c h = let low : c < 128 = grind (arith, nat_tests) in rw (is_xid_start-ascii c low, h) refl
 
-letters_name : (cs : List ℕ) → list_all is_ascii_alphabetic cs ≡ true → nat_lt 0 (length cs) ≡ true → is_name cs ≡ true
+pub letters_name : (cs : List ℕ) → list_all is_ascii_alphabetic cs ≡ true → nat_lt 0 (length cs) ≡ true → is_name cs ≡ true
 letters_name [] h some = absurd (cc)
 letters_name (c ∷ cs) h some =
     let k = both (is_ascii_alphabetic c) (list_all is_ascii_alphabetic cs) h in
@@ -159,7 +159,7 @@ reserved_found e n h = step (word_of n) refl h
     step None same h = absurd (cc)
     step (Some w) same h =
         found_any (λ w. bytes_eq n (words.spelling w)) (λ w. is_reserved e w && bytes_eq n (words.spelling w)) WORDS w (sym same)
-          (rw h (find_passes (λ w. bytes_eq n (words.spelling w)) WORDS w (sym same)))
+        (rw h (find_passes (λ w. bytes_eq n (words.spelling w)) WORDS w (sym same)))
 
 and_false : (b : Bool) → (b && false) ≡ false
 and_false true = refl
@@ -253,8 +253,9 @@ mark_found cs m h =
 pub mark_longest : (cs : List ℕ) (m : Mark) → mark_at cs ≡ Some m → begins_longer m cs ≡ false
 unfolding mark_at marks.spelling
 mark_longest cs m h = elim (mark_spelled m).short [
-    inl one ↦ subst (λ (n : ℕ). list_any (λ x. nat_lt n (length (marks.spelling x)) && begins x) MARKS ≡ false) (sym one) (no_longer h (λ x e. differs x one e))
-  | inr two ↦ subst (λ (n : ℕ). list_any (λ x. nat_lt n (length (marks.spelling x)) && begins x) MARKS ≡ false) (sym two) refl ]
+  | inl one ↦ subst (λ (n : ℕ). list_any (λ x. nat_lt n (length (marks.spelling x)) && begins x) MARKS ≡ false) (sym one) (no_longer h (λ x e. differs x one e))
+  | inr two ↦ subst (λ (n : ℕ). list_any (λ x. nat_lt n (length (marks.spelling x)) && begins x) MARKS ≡ false) (sym two) refl
+]
   where
     begins : Mark → Bool
     begins x = starts_with nat_eq cs (marks.spelling x)

@@ -1,5 +1,6 @@
 pub mod Breaches
 pub mod Characters
+pub mod Checked
 pub mod Comparisons
 pub mod Declarations
 pub mod Globals

@@ -1,6 +1,7 @@
 //! What a specification is: its tokens, its syntax, and the worlds that it is about.
 #![tactic(auto)]
 
+mod checked;
 mod edition;
 mod laws;
 mod list;
@@ -12,6 +13,7 @@ mod token;
 mod want;
 mod world;
 
+pub use checked::Checked;
 pub use edition::Edition;
 pub use laws::refused_is_lowest;
 pub use list::List;

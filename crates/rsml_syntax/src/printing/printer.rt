@@ -1,7 +1,7 @@
 ghost use Rattle.std.specs.Prelude.{◌≤◌, vec_len};
 
-use crate::no_memory::NoMemory;
 use super::spacing::{Kind, depth_after, write_space};
+use crate::no_memory::NoMemory;
 use crate::text::Text;
 use crate::token::{Mark, Word};
 use itoa::Buffer;

@@ -92,12 +92,7 @@ fn write_line(text: &mut Vec<u8>, depth: usize) -> Result<(), NoMemory>
 }
 
 /// Writes what stands between the two, where so many braces are open after the first.
-fn write_between(
-    text: &mut Vec<u8>,
-    depth: usize,
-    last: Kind,
-    next: Kind,
-) -> Result<(), NoMemory>
+fn write_between(text: &mut Vec<u8>, depth: usize, last: Kind, next: Kind) -> Result<(), NoMemory>
     ensures ok { OnOk result (text.new.items ≡ text.old.items ++ layout.space_between depth (token_like last) (token_like next)) }
     ensures grows { vec_len text.old ≤ vec_len text.new }
 {

@@ -8,9 +8,9 @@ use Rattle.rsml_syntax.proofs.printing.printer.Printer.mark.Goals as goal
 pub invariant_of-self : goal.invariant_of-self
 invariant_of-self c = record {
   deep = mark_within c.args.mark (vec_len c.args.self.now.text) (vec_len c.write.new.self.text) c.write.new.self.depth c.depth_after-self.result
-    (subst (λ (d : ℕ). d ≤ vec_len c.args.self.now.text) (sym c.write.ensures.depth) c.args.self.now.deep)
-    (subst (λ l. vec_len c.args.self.now.text + length l ≤ vec_len c.write.new.self.text) c.spelling.ensures c.in_ok-write.ensures.grown)
-    c.depth_after-self.ensures.most;
+      (subst (λ (d : ℕ). d ≤ vec_len c.args.self.now.text) (sym c.write.ensures.depth) c.args.self.now.deep)
+      (subst (λ l. vec_len c.args.self.now.text + length l ≤ vec_len c.write.new.self.text) c.spelling.ensures c.in_ok-write.ensures.grown)
+      c.depth_after-self.ensures.most;
 }
 
 pub returns : goal.returns

@@ -6,4 +6,4 @@ use Rattle.rsml_syntax.proofs.printing.printer.Printer.number.Goals as goal
 pub returns : goal.returns
 returns c =
     wrote_on_ok c.write.result c.args.self.now c.write.new.self (token.Number c.args.number) c.as_bytes.result.now (sym (c.as_bytes.ensures.value ∙ c.format.ensures.text))
-      c.write.ensures.text c.write.ensures.depth c.write.ensures.last
+    c.write.ensures.text c.write.ensures.depth c.write.ensures.last

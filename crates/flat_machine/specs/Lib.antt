@@ -1,0 +1,6 @@
+pub mod Answered
+pub mod Beside
+pub mod Flat
+pub mod FlatTexts
+pub mod Machine
+pub mod Search

@@ -1,0 +1,19 @@
+//! Flat specifications, analysed by going through all of their worlds.
+#![tactic(auto)]
+
+mod analysis;
+mod body;
+mod build;
+mod flat;
+mod lookup;
+mod machine;
+mod result;
+mod search;
+mod text;
+mod truth;
+mod verdict;
+
+pub use analysis::{report, report_text, verdicts};
+pub use flat::is_flat;
+pub use result::Report;
+pub use verdict::Verdict;
