@@ -11,7 +11,7 @@ use Rattle.rsml_meaning.specs.Runs.{first_world, latched, Reaction, IsRunFrom}
 use Rattle.one_run.specs.Scoped.{WellScoped}
 use Rattle.one_run.specs.Deterministic.{StepsEndInTime}
 use Rattle.one_run.specs.Whole.{StepResult, IsStepResult}
-use Rattle.one_run.specs.Laws.{RunsEndInTime, EventFilesHaveOneRun}
+use Rattle.one_run.specs.Laws.{RunsEndInTime, LinesHaveOneRun, EventFilesHaveOneRun}
 use Rattle.one_run.proofs.Steps.{steps_are_one, steps_are_short, step_leaves_world}
 use Rattle.one_run.proofs.Messages.{IsTold, all_told}
 use Rattle.one_run.proofs.Latched.{first_is_world, latched_is_world}
@@ -65,7 +65,10 @@ in_time s w (m ∷ ms) [] h = elim h [ ]
 pub runs_end_in_time : RunsEndInTime
 runs_end_in_time s lines rs h = in_time s (first_world s) (messages s lines) rs h
 
-pub event_files_have_one_run : EventFilesHaveOneRun
-event_files_have_one_run s limits scoped c content h =
-    let r = one_run s scoped c (first_world s) (messages s (lines_of content)) (first_is_world s scoped) (all_told s (lines_of content)) in
+pub lines_have_one_run : LinesHaveOneRun
+lines_have_one_run s lines scoped c =
+    let r = one_run s scoped c (first_world s) (messages s lines) (first_is_world s scoped) (all_told s lines) in
     (r.run, r.is, r.only)
+
+pub event_files_have_one_run : EventFilesHaveOneRun
+event_files_have_one_run s limits scoped c content h = lines_have_one_run s (lines_of content) scoped c

@@ -16,7 +16,7 @@ use Rattle.one_run.specs.Scoped.{WellScoped}
 use Rattle.one_run.specs.MicroSteps.{Result, IsResult, HasOneResult, NoTwoOnALine, FunctionsHaveOneValue, IsDeterminate}
 use Rattle.one_run.specs.Deterministic.{IsLowestLine, enabled_on_line, IsActiveSource, HasLowestLine, StepsEndInTime, IsDeterministic}
 use Rattle.one_run.specs.Turns.{after_all}
-use Rattle.one_run.specs.Whole.{StepResult, IsStepResult, HasOneStep}
+use Rattle.one_run.specs.Whole.{StepResult, IsStepResult, HasOneStep, HaveOneRun}
 
 -- What the rules give.
 
@@ -78,6 +78,10 @@ StepsAreShort = (s : Spec) (w : World) (x : Instance) (n : ℕ) (r : StepResult)
 -- each step of a run ends within the length of its event
 abbrev pub RunsEndInTime : Type 0
 RunsEndInTime = (s : Spec) (lines : List Line) (rs : List Reaction) → IsRun s lines rs → StepsEndInTime s (messages s lines) rs
+
+-- lines of an event file have exactly one run, so also those before the first fault
+abbrev pub LinesHaveOneRun : Type 0
+LinesHaveOneRun = (s : Spec) (lines : List Line) → WellScoped s → Certified s → HaveOneRun s lines
 
 -- every well-formed event file has exactly one run
 abbrev pub EventFilesHaveOneRun : Type 0
