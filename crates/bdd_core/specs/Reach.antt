@@ -1,7 +1,6 @@
 -- What is reached from a place, and how many nodes that are.
-use Rattle.std.specs.Prelude.{◌≡◌, ◌≢◌, ℕ, ◌≤◌, List, length, Contains}
+use Rattle.std.specs.Prelude.{◌≡◌, ℕ, ◌≤◌, List, length, Contains, nat_eq}
 use Rattle.std.specs.List.{IsDistinct}
-use Rattle.std.specs.Prelude.{nat_eq}
 use Rattle.bdd_core.specs.Diagram.{Diagram, node_at}
 
 -- from the place f one comes to the place k, going down; the constants have no children

@@ -1,0 +1,53 @@
+#!/usr/bin/env bash
+# Compares the arena of bdd_core with BuDDy on the same work: bench/diagrams.sh [ROUNDS [TASK..]]
+# Each task runs ROUNDS times (3) in each program, one after the other, and the least time counts. A task is queens=N,
+# equal=N or tables=N. BuDDy gets its tables beforehand, for 20,000,000 nodes and 2,000,000 results, and never reorders; the
+# arena grows by itself. The last columns are the arena's greatest resident memory, and that for each node.
+set -u
+here=$(cd "$(dirname "$0")" && pwd)
+rounds=${1:-3}
+shift $(($# > 0 ? 1 : 0))
+tasks=("$@")
+[ ${#tasks[@]} -gt 0 ] || tasks=(queens=8 queens=9 queens=10 equal=16 equal=19 tables=6 tables=8)
+work=$(mktemp -d)
+trap 'rm -rf "$work"' EXIT
+
+(cd "$here/../crates/bdd_bench" && rt run -- queens=4) >"$work/build.log" 2>&1 ||
+  { tail -n 5 "$work/build.log"; exit 1; }
+cp "$here/../crates/bdd_bench/out/bdd_bench" "$work/arena"
+
+[ -f /usr/include/bdd.h ] || apt-get install -y libbdd-dev >/dev/null 2>&1
+if [ -f /usr/include/bdd.h ] && cc -O3 -o "$work/buddy" "$here/buddy.c" -lbdd; then
+  peer=yes
+else
+  peer=no
+  echo "BuDDy (libbdd-dev) is not installed: its columns are skipped"
+fi
+
+# field NAME: the number that follows a word in a line
+field() { sed -n "s/.* $1 \([0-9]*\).*/\1/p"; }
+
+# least A B: the lesser of two numbers, where the first may be empty
+least() { if [ -z "$1" ] || [ "$2" -lt "$1" ]; then echo "$2"; else echo "$1"; fi; }
+
+printf '%-10s %10s %10s %10s %7s %10s %7s\n' task nodes 'arena s' 'BuDDy s' ratio kilobytes B/node
+for task in "${tasks[@]}"; do
+  ours='' theirs='' kilobytes='-' bytes='-' ratio='-'
+  for _ in $(seq "$rounds"); do
+    if [ -x /usr/bin/time ]; then
+      line=$(/usr/bin/time -o "$work/memory" -f %M "$work/arena" seconds "$task")
+      kilobytes=$(tail -n 1 "$work/memory")
+    else
+      line=$("$work/arena" seconds "$task")
+    fi
+    nodes=$(echo "$line" | field nodes)
+    ours=$(least "$ours" "$(echo "$line" | field microseconds)")
+    if [ $peer = yes ]; then
+      theirs=$(least "$theirs" "$("$work/buddy" "$task" | field microseconds)")
+    fi
+  done
+  [ "$kilobytes" = - ] || bytes=$(awk "BEGIN { printf \"%.1f\", $kilobytes * 1024 / $nodes }")
+  [ -z "$theirs" ] || ratio=$(awk "BEGIN { printf \"%.2f\", $ours / $theirs }")
+  printf '%-10s %10s %10s %10s %7s %10s %7s\n' "$task" "$nodes" "$(awk "BEGIN { printf \"%.3f\", $ours / 1e6 }")" \
+    "$([ -z "$theirs" ] && echo - || awk "BEGIN { printf \"%.3f\", $theirs / 1e6 }")" "$ratio" "$kilobytes" "$bytes"
+done
