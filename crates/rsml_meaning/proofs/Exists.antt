@@ -52,7 +52,7 @@ cases_kept v (c ∷ cs) = ap (λ r. c ∷ r) (cases_kept v cs)
 -- Children.
 
 -- as many choices as components
-abbrev fits : List Component → List ℕ → Bool
+abbrev pub fits : List Component → List ℕ → Bool
 fits [] [] = true
 fits (c ∷ cs) (n ∷ ns) = fits cs ns
 fits _ _ = false

@@ -1,19 +1,19 @@
 mod AllWorlds
-mod Children
-mod Computed
-mod Entering
-mod Exists
+pub mod Children
+pub mod Computed
+pub mod Entering
+pub mod Exists
 mod Lengths
 mod Order
 mod OneReport
 mod Pigeons
-mod Repeats
-mod Reported
-mod Same
-mod Stable
+pub mod Repeats
+pub mod Reported
+pub mod Same
+pub mod Stable
 mod Verdicts
-mod Ways
+pub mod Ways
 mod WellFormed
 mod Written
 mod examples
-mod values
+pub mod values

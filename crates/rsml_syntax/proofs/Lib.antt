@@ -1,2 +1,9 @@
-pub mod Examples
 mod Lowest
+pub mod BodyLemmas
+pub mod CharacterLemmas
+pub mod Examples
+pub mod FrontLemmas
+pub mod LayoutLemmas
+pub mod PrintLemmas
+pub mod ScanLemmas
+pub mod WordLemmas

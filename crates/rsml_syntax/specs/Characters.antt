@@ -17,6 +17,11 @@ abbrev mutual
   is_comment unclosed [] = unclosed
   is_comment unclosed (c ∷ cs) = elim (c == 10) [ true ↦ are_blanks unclosed cs | false ↦ is_comment unclosed cs ]
 
+-- white space or a comment begins here
+abbrev pub begins_blanks : List ℕ → Bool
+begins_blanks [] = false
+begins_blanks (c ∷ cs) = c == 35 || is_white c
+
 -- a character that may begin a name
 abbrev pub is_start : ℕ → Bool
 is_start c = is_xid_start c || c == 95

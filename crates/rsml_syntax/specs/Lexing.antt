@@ -4,7 +4,7 @@ use Rattle.std.specs.Str.{all_scalars, encode_utf8_all}
 use Rattle.std.specs.Str.Lossy.{utf8_valid_len}
 use Rattle.rsml_syntax.specs.declared.edition.Edition.{Edition}
 use Rattle.rsml_syntax.specs.declared.token.Placed.{Placed}
-use Rattle.rsml_syntax.specs.Characters.{are_blanks, is_digit, digits_at, digits_value}
+use Rattle.rsml_syntax.specs.Characters.{are_blanks, begins_blanks, is_digit, digits_at, digits_value}
 use Rattle.rsml_syntax.specs.Tokens.{Tokens, Spells, ends, begins_token, first_is, greatest_number}
 
 -- how many bytes the characters take
@@ -49,6 +49,6 @@ abbrev pub LexFault : Edition → List ℕ → Fault → Type 0
 LexFault e bytes (NotUtf8 at) = (cs : List ℕ) × (ts : List Placed) × IsTrue (all_scalars cs) × (front_of bytes ≡ encode_utf8_all cs)
     × ScansWhole e cs ts × (at ≡ utf8_valid_len bytes) × (at < length bytes)
 LexFault e bytes (BadCharacter at) = (cs next : List ℕ) × IsTrue (all_scalars cs) × (front_of bytes ≡ encode_utf8_all cs)
-    × Reaches e cs at next × (next ≡ [] → ⊥) × IsFalse (are_blanks true next) × IsFalse (begins_token next)
+    × Reaches e cs at next × (next ≡ [] → ⊥) × IsFalse (begins_blanks next) × IsFalse (begins_token next)
 LexFault e bytes (NumberTooBig at) = (cs next : List ℕ) × IsTrue (all_scalars cs) × (front_of bytes ≡ encode_utf8_all cs)
     × Reaches e cs at next × IsTrue (first_is is_digit next) × (greatest_number < digits_value (digits_at next))

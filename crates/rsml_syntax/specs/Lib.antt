@@ -1,5 +1,6 @@
 pub mod Breaches
 pub mod Characters
+pub mod Checked
 pub mod Comparisons
 pub mod Declarations
 pub mod Globals
@@ -14,12 +15,15 @@ pub mod Owners
 pub mod Parts
 pub mod Places
 pub mod Previous
+pub mod Printing
 pub mod Relations
 pub mod Rules
+pub mod Scanning
 pub mod Scopes
 pub mod States
 pub mod Tables
 pub mod Thresholds
+pub mod TokenKinds
 pub mod Tokens
 pub mod Uses
 pub mod WellFormed

@@ -124,5 +124,6 @@ abbrev pub over : Spec → Option (ℕ × ℕ)
 over s = first_over s limits
 
 -- It keeps the rules and the limits.
-abbrev pub Keeps : Spec → Type 0
-Keeps s = (refused s ≡ None) × (over s ≡ None)
+pub record Keeps (s : Spec) : Type 0 where
+  pub rules : refused s ≡ None
+  pub limits : over s ≡ None

@@ -46,7 +46,7 @@ wide n = record { name = letters n; size = Some (up_to 64); body = Basic }
 
 -- the top state, 63 arrays of 64 and one of 63
 keeps_4096_states : Keeps (spec [] (all (array "Z" (up_to 63) Basic ∷ map wide (numbers 63))))
-keeps_4096_states = (refl, refl)
+keeps_4096_states = record { rules = refl; limits = refl }
 
 breaks_4097_states : over (spec [] (all (map wide (numbers 64)))) ≡ Some (1, 4097)
 breaks_4097_states = refl
@@ -60,7 +60,7 @@ buses_of n =
 
 -- 32 components with 4 transitions from 64 members
 keeps_8192_transitions : Keeps (spec (event "E" None ∷ []) (all (array "U" (up_to 32) (buses_of 4) ∷ [])))
-keeps_8192_transitions = (refl, refl)
+keeps_8192_transitions = record { rules = refl; limits = refl }
 
 breaks_8193_transitions :
     over (spec (event "E" None ∷ [])
@@ -74,7 +74,7 @@ abbrev wide_event : ℕ → Decl
 wide_event n = decl.Event (letters n) (Some (up_to 64))
 
 keeps_1024_events : Keeps (spec (map wide_event (numbers 16)) Basic)
-keeps_1024_events = (refl, refl)
+keeps_1024_events = record { rules = refl; limits = refl }
 
 breaks_1025_events : over (spec (event "E" None ∷ map wide_event (numbers 16)) Basic) ≡ Some (3, 1025)
 breaks_1025_events = refl
@@ -96,7 +96,7 @@ abbrev with_previous : List Decl
 with_previous = range "R" (plus 0) (plus 9) ∷ macro "M" (Some (up_to 64)) (map previous_row (numbers 8)) ∷ map wide_input (numbers 8)
 
 keeps_1024_cells : Keeps (spec with_previous Basic)
-keeps_1024_cells = (refl, refl)
+keeps_1024_cells = record { rules = refl; limits = refl }
 
 breaks_1025_cells : over (spec (input "X" None "R" (from (plus 0)) ∷ with_previous) Basic) ≡ Some (4, 1025)
 breaks_1025_cells = refl
@@ -110,7 +110,7 @@ abbrev wide_function : Decl
 wide_function = function "V" (Some (up_to 64)) (case (num 1) always ∷ [])
 
 keeps_8192_definitions : Keeps (spec (wide_function ∷ map wide_macro (numbers 127)) Basic)
-keeps_8192_definitions = (refl, refl)
+keeps_8192_definitions = record { rules = refl; limits = refl }
 
 breaks_8193_definitions : over (spec (wide_function ∷ macro "M" None (rows 1) ∷ map wide_macro (numbers 127)) Basic) ≡ Some (5, 8193)
 breaks_8193_definitions = refl
@@ -122,7 +122,7 @@ abbrev quantified : ℕ → Decl
 quantified n = macro "M" (Some (up_to 64)) (replicate n (some "k" (up_to 64) (in_state (plain "A" ∷ [])) "T"))
 
 keeps_65536_rows : Keeps (spec (quantified 16 ∷ []) Basic)
-keeps_65536_rows = (refl, refl)
+keeps_65536_rows = record { rules = refl; limits = refl }
 
 breaks_65537_rows : over (spec (quantified 16 ∷ macro "L" None (rows 1) ∷ []) Basic) ≡ Some (6, 65537)
 breaks_65537_rows = refl

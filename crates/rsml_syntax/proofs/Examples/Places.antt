@@ -77,8 +77,14 @@ no_state_follows s more e = by_body s.decls s.body e
 
 -- in `specification A; state A one { state A; }` the fault is at the eighth token
 one_state_without_a_default : IsSyntaxPlace (opened ++ token.Word words.State ∷ token.Name (codes "A") ∷ token.Mark marks.Semicolon ∷ token.Mark marks.CloseBrace ∷ []) 8
-one_state_without_a_default = (opened, token.Word words.State ∷ token.Name (codes "A") ∷ token.Mark marks.Semicolon ∷ token.Mark marks.CloseBrace ∷ [], refl, refl,
-    opened_begins, λ b. no_state_follows b.0 b.1 b.3)
+one_state_without_a_default = (
+  opened,
+  token.Word words.State ∷ token.Name (codes "A") ∷ token.Mark marks.Semicolon ∷ token.Mark marks.CloseBrace ∷ [],
+  refl,
+  refl,
+  opened_begins,
+  λ b. no_state_follows b.0 b.1 b.3,
+)
 
 name_B : IsFreeName editions.Second (codes "B")
 unfolding spelling encode
@@ -96,15 +102,55 @@ cut_off = opened ++ token.Word words.Default ∷ token.Name (codes "B") ∷ toke
 -- the same, and then `always; }`
 abbrev pub completed : Spec
 completed = record {
-  name = codes "A"; decls = []; top = codes "A";
+  name = codes "A";
+  decls = [];
+  top = codes "A";
   body = One' (codes "B") (tt ∷ []) (more_of-StateDecl (codes "B") None Basic end_of-StateDecl) []
-    (record { source = codes "B"; target = None; trigger = record { name = codes "E"; index = None }; guard = guards.Always; raises = [] } ∷ []);
+      (record { source = codes "B"; target = None; trigger = record { name = codes "E"; index = None }; guard = guards.Always; raises = [] } ∷ []);
 }
 
 completed_is : WellFormed completed
 completed_is = record {
-  tokens = (refl, (name_A, (refl, (refl, (name_A, (refl, (refl, (refl, (name_B, (refl, (refl, (name_B, (refl,
-    (refl, (name_B, (refl, (name_E, (refl, (refl, (refl, (refl, refl)))))))))))))))))))));
+  tokens = (
+    refl,
+    (
+      name_A,
+      (
+        refl,
+        (
+          refl,
+          (
+            name_A,
+            (
+              refl,
+              (
+                refl,
+                (
+                  refl,
+                  (
+                    name_B,
+                    (
+                      refl,
+                      (
+                        refl,
+                        (
+                          name_B,
+                          (
+                            refl,
+                            (refl, (name_B, (refl, (name_E, (refl, (refl, (refl, (refl, refl)))))))),
+                          ),
+                        ),
+                      ),
+                    ),
+                  ),
+                ),
+              ),
+            ),
+          ),
+        ),
+      ),
+    ),
+  );
   items = refl;
 }
 
@@ -163,7 +209,7 @@ cut_off_is_none s e = by_body s.decls s.body e
   where
     by_body : (ds : List Decl) (b : Body) → tokens_of (record s { decls = ds; body = b }) ≡ cut_off → ⊥
     by_body [] Basic e = absurd (cc (ap (word_at 5) e))
-    by_body [] (All' _ children) e = absurd (cc (ap (word_at 5) e))
+    by_body [] (All' _ children) e = absurd (cc e)
     by_body [] (One' first _ children bs ts) e = children_go_on children bs ts (ap (drop 10) e)
     by_body (decls.Enumeration _ _ ∷ ds) b e = absurd (cc (ap (word_at 3) e))
     by_body (decls.Range _ _ _ ∷ ds) b e = absurd (cc (ap (word_at 3) e))

@@ -64,7 +64,7 @@ tcas =
     ∷ []))
 
 tcas_is_kept : Keeps tcas
-tcas_is_kept = (refl, refl)
+tcas_is_kept = record { rules = refl; limits = refl }
 
 state_instances_of_tcas : total states_at tcas ≡ 124
 state_instances_of_tcas = refl
@@ -97,7 +97,7 @@ climb =
     ∷ []))
 
 climb_is_kept : Keeps climb
-climb_is_kept = (refl, refl)
+climb_is_kept = record { rules = refl; limits = refl }
 
 -- Alt and its previous value
 cells_of_climb : total (cells_at climb) climb ≡ 2

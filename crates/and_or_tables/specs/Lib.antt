@@ -1,0 +1,6 @@
+pub mod Asked
+pub mod Cells
+pub mod Fast
+pub mod Ground
+pub mod Masks
+pub mod Shape

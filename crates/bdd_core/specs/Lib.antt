@@ -1,0 +1,6 @@
+pub mod Diagram
+pub mod Reach
+pub mod Calls
+pub mod Steps
+pub mod Holds
+pub mod Sweep

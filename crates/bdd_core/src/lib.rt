@@ -1,0 +1,14 @@
+//! Reduced ordered binary decision diagrams, all in one arena: equal functions have equal handles.
+#![tactic(auto)]
+
+mod arena;
+mod branch;
+mod computed;
+mod marks;
+mod node;
+mod reference;
+
+pub use arena::Arena;
+pub use branch::Branch;
+pub use marks::Marks;
+pub use reference::Ref;

@@ -1,0 +1,12 @@
+use Rattle.one_run.proofs.MicroSteps.{micro_steps_are_one}
+use Rattle.one_run.proofs.Worlds.{micro_steps_exist, micro_steps_leave_worlds}
+use Rattle.one_run.proofs.micro_steps.micro_steps_have_one_result.Goals as goal
+
+pub returns-clause-exist : goal.returns-clause-exist
+returns-clause-exist c = micro_steps_exist
+
+pub returns-clause-worlds : goal.returns-clause-worlds
+returns-clause-worlds c = micro_steps_leave_worlds
+
+pub returns-clause-one : goal.returns-clause-one
+returns-clause-one c = micro_steps_are_one

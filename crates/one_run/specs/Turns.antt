@@ -1,0 +1,13 @@
+-- Transitions that are entered one after another.
+use Rattle.std.specs.Prelude.{ℕ, List, Some, None, fold}
+use Rattle.rsml_syntax.specs.declared.syntax.Spec.{Spec}
+use Rattle.rsml_meaning.specs.Active.{enter}
+use Rattle.rsml_meaning.specs.Transitions.{TransitionInstance}
+
+-- the children after one transition; a stay leaves them
+abbrev pub after_one : Spec → List ℕ → TransitionInstance → List ℕ
+after_one s choices t = elim t.target [ None ↦ choices | Some target ↦ enter s t.component target choices ]
+
+-- the children after transitions that are entered one after another
+abbrev pub after_all : Spec → List TransitionInstance → List ℕ → List ℕ
+after_all s ts choices = fold (after_one s) choices ts

@@ -1,0 +1,9 @@
+use Rattle.std.proofs.Common.{rules, sym, ◌∙◌}
+use Rattle.rsml.proofs.CommandLemmas.{runs_command, runs_usage}
+use Rattle.rsml.proofs.running.run.Goals as goal
+
+pub returns-in-Some-clause-runs : goal.returns-in-Some-clause-runs
+returns-in-Some-clause-runs g c = runs_command _ _ _ _ (search rules) c.act.ensures.acted
+
+pub returns-in-None-clause-runs : goal.returns-in-None-clause-runs
+returns-in-None-clause-runs g c = runs_usage _ _ (search rules) c.finish.ensures

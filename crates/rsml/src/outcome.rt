@@ -1,0 +1,55 @@
+ghost use Rattle.std.specs.Prelude.{◌≤◌, length, IfOk};
+ghost use Rattle.rsml_syntax.specs.WellFormed.{WellFormed};
+ghost use Rattle.rsml.specs.Acts.{IsOfText};
+ghost use Rattle.rsml.specs.Output.{ActionOutput};
+ghost use Rattle.rsml.specs.Outcomes.{IsLaidOut, IsNotBuilt};
+
+use crate::command::Action;
+use crate::reading::{Reading, read_text};
+use crate::status::Status;
+use rsml_syntax::{NoMemory, Spec, print_spec};
+use std::alloc::Global;
+
+/// What a command comes to: how it ends, and what it writes.
+#[derive(Debug, Drop)]
+pub struct Outcome {
+    pub status: Status,
+    pub text: Vec<u8>,
+}
+
+/// What `format` comes to on a specification.
+fn lay_out(alloc: Global, spec: &Spec) -> Result<Outcome, NoMemory>
+    requires { WellFormed spec.now }
+    ensures { IfOk result (IsLaidOut spec.now) }
+{
+    let layout = print_spec(alloc, spec)?;
+    Ok(Outcome {
+        status: Status::Done,
+        text: layout.into_bytes(),
+    })
+}
+
+/// What `check` comes to on a specification.
+fn check(alloc: Global) -> Result<Outcome, NoMemory>
+    ensures { IfOk result IsNotBuilt }
+{
+    Ok(Outcome {
+        status: Status::NotBuilt,
+        text: Vec::from_slice(alloc, b"fault not built\n")?,
+    })
+}
+
+/// What an action comes to on a text.
+pub fn outcome_of(alloc: Global, action: Action, text: &[u8]) -> Result<Outcome, NoMemory>
+    requires { length text.now ≤ 1048576 }
+    ensures output { IfOk result (λ o. ActionOutput action text.now o.status o.text.items) }
+    ensures status { IfOk result (λ o. IsOfText o.status) }
+{
+    match read_text(alloc, text)? {
+        Reading::Unread(outcome) => Ok(outcome),
+        Reading::Read(spec) => match action {
+            Action::Check => check(alloc),
+            Action::Format => lay_out(alloc, &spec),
+        },
+    }
+}

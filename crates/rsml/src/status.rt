@@ -1,0 +1,42 @@
+ghost use Rattle.std.specs.Prelude.{◌≡◌};
+
+/// How a command ended.
+#[derive(Clone, Copy, Debug, PartialEq, Eq)]
+pub enum Status {
+    /// The command did its work.
+    Done,
+    /// The specification does not read.
+    SpecFault,
+    /// The words are no command.
+    Usage,
+    /// A read was refused.
+    ReadFault,
+    /// A write was refused.
+    WriteFault,
+    /// Memory was refused. Nothing was written.
+    NoMemory,
+    /// The specification is too long.
+    TooLong,
+    /// What was asked for is not built yet.
+    NotBuilt,
+}
+
+impl Status {
+    ghost use Rattle.rsml.specs.Statuses.{number};
+
+    /// The number with which the program ends.
+    pub fn number(self) -> u8
+        ensures { result ≡ number self }
+    {
+        match self {
+            Status::Done => 0,
+            Status::SpecFault => 2,
+            Status::Usage => 4,
+            Status::ReadFault => 5,
+            Status::WriteFault => 6,
+            Status::NoMemory => 7,
+            Status::TooLong => 8,
+            Status::NotBuilt => 9,
+        }
+    }
+}

@@ -1,0 +1,6 @@
+pub mod Counts
+pub mod Reading
+pub mod Writing
+pub mod SinkState
+pub mod Held
+pub mod FilesState

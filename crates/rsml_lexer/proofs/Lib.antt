@@ -1,0 +1,5 @@
+pub mod ByteLemmas
+pub mod ReadingLemmas
+pub mod TextLemmas
+pub mod ScanSteps
+pub mod LexLemmas

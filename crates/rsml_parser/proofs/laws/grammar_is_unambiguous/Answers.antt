@@ -1,0 +1,5 @@
+use Rattle.rsml_parser.proofs.ReadingLemmas.{tokens_tell}
+use Rattle.rsml_parser.proofs.laws.grammar_is_unambiguous.Goals as goal
+
+pub returns : goal.returns
+returns c = tokens_tell

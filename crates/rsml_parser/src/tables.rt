@@ -1,0 +1,97 @@
+ghost use Rattle.std.specs.Prelude.{◌≡◌};
+ghost use Rattle.rsml_parser.specs.Reading as reading;
+ghost use Rattle.rsml_parser.specs.Reading.{Gives};
+ghost use Rattle.rsml_parser.specs.Tables as spec;
+ghost use Rattle.rsml_syntax.specs.declared.token.Mark.TheVariants as marks;
+
+use crate::list::{Item, Listed, until};
+use crate::phrases::phrase;
+use crate::reader::{Fault, Reader};
+use rsml_syntax::{Cell, Guard, List, Mark, Row, Word};
+use std::alloc::Global;
+
+#[tactic(auto, unfolding(crate::specs::Reading::and_then, crate::specs::Tables::cell))]
+fn cell(reader: &mut Reader<'_>) -> Result<Cell, Fault>
+    ensures { Gives (spec.cell reader.old) result reader.new }
+{
+    if reader.sees_word(Word::T) {
+        reader.word(Word::T)?;
+        return Ok(Cell::T);
+    }
+    if reader.sees_word(Word::F) {
+        reader.word(Word::F)?;
+        return Ok(Cell::F);
+    }
+    reader.mark(Mark::Dot)?;
+    Ok(Cell::Dot)
+}
+
+impl Item for Cell {
+    ghost reading = { spec.cell };
+
+    fn read(_alloc: Global, reader: &mut Reader<'_>) -> Result<Cell, Fault> {
+        cell(reader)
+    }
+}
+
+impl Listed for Cell {
+    ghost begins = { reading.is_not marks.Semicolon };
+
+    fn begins(reader: &Reader<'_>) -> bool {
+        reader.goes_on(Mark::Semicolon)
+    }
+}
+
+#[tactic(auto, unfolding(crate::specs::Reading::and_then, crate::specs::Tables::row))]
+fn row(alloc: Global, reader: &mut Reader<'_>) -> Result<Row, Fault>
+    ensures { Gives (spec.row reader.old) result reader.new }
+{
+    let phrase = phrase(alloc, reader)?;
+    reader.mark(Mark::Bar)?;
+    let cells = until(alloc, reader, Mark::Semicolon)?;
+    Ok(Row { phrase, cells })
+}
+
+impl Item for Row {
+    ghost reading = { spec.row };
+
+    fn read(alloc: Global, reader: &mut Reader<'_>) -> Result<Row, Fault> {
+        row(alloc, reader)
+    }
+}
+
+impl Listed for Row {
+    ghost begins = { reading.is_not marks.CloseBrace };
+
+    fn begins(reader: &Reader<'_>) -> bool {
+        reader.goes_on(Mark::CloseBrace)
+    }
+}
+
+#[tactic(auto, unfolding(crate::specs::Reading::and_then, crate::specs::Tables::table))]
+pub fn table(alloc: Global, reader: &mut Reader<'_>) -> Result<List<Row>, Fault>
+    ensures { Gives (spec.table reader.old) result reader.new }
+{
+    reader.mark(Mark::OpenBrace)?;
+    until(alloc, reader, Mark::CloseBrace)
+}
+
+#[tactic(auto, unfolding(crate::specs::Reading::and_then, crate::specs::Tables::guard))]
+fn guard(alloc: Global, reader: &mut Reader<'_>) -> Result<Guard, Fault>
+    ensures { Gives (spec.guard reader.old) result reader.new }
+{
+    if reader.sees_word(Word::Always) {
+        reader.word(Word::Always)?;
+        return Ok(Guard::Always);
+    }
+    let rows = table(alloc, reader)?;
+    Ok(Guard::Table(rows))
+}
+
+#[tactic(auto, unfolding(crate::specs::Reading::and_then, crate::specs::Tables::when_guard))]
+pub fn when_guard(alloc: Global, reader: &mut Reader<'_>) -> Result<Guard, Fault>
+    ensures { Gives (spec.when_guard reader.old) result reader.new }
+{
+    reader.word(Word::When)?;
+    guard(alloc, reader)
+}

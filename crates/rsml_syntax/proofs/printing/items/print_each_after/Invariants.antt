@@ -1,0 +1,9 @@
+use Rattle.std.proofs.Common.{◌≡◌, drop}
+use Rattle.rsml_syntax.specs.Grammar.{each_after}
+use Rattle.rsml_syntax.specs.Printing.{with_tokens}
+use Rattle.rsml_syntax.specs.Tokens.{Tokens}
+use Rattle.rsml_syntax.proofs.printing.items.print_each_after.Given as goal
+
+abbrev pub invariant-loop-item : goal.invariant-loop-item
+invariant-loop-item g l = (rest : Tokens) →
+    with_tokens l.fn.printer (each_after l.mark g.T.Print.tokens l.items rest) ≡ with_tokens l.printer (each_after l.mark g.T.Print.tokens (drop l.item-index l.items) rest)
