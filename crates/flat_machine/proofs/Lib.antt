@@ -1,6 +1,6 @@
+pub mod Appends
 pub mod Basics
 pub mod Bodies
-pub mod Chains
 pub mod Columns
 pub mod Declared
 pub mod Enabled
@@ -12,10 +12,10 @@ pub mod Least
 pub mod Lookups
 pub mod Loops
 pub mod Numbers
+pub mod OneLong
 pub mod Places
 pub mod Previous
 pub mod Products
-pub mod Puts
 pub mod Reports
 pub mod Shape
 pub mod Told

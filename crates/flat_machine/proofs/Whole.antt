@@ -38,7 +38,7 @@ use Rattle.flat_machine.proofs.Shape.{top_path, spec_of, component_is, events_ar
 use Rattle.flat_machine.proofs.Kept.{group_of}
 use Rattle.flat_machine.proofs.Enabled.{HasComponent}
 use Rattle.flat_machine.proofs.Places.{names_of}
-use Rattle.flat_machine.proofs.Chains.{lengths_right, clashes_right, loops_right, no_loop, no_clash}
+use Rattle.flat_machine.proofs.OneLong.{lengths_right, clashes_right, loops_right, no_loop, no_clash}
 use Rattle.flat_machine.proofs.Reports.{groups_are, are_groups, right_verdicts, right_findings, all_sound, all_found_so}
 
 -- CHAINS

@@ -12,9 +12,10 @@ ghost use Rattle.flat_machine.specs.Answered.{answers};
 
 use crate::body::{children_of, transitions_of};
 use crate::build::{Whole, groups_in, inputs};
+use crate::findings::{Names, count_found};
 use crate::machine::{FlatGroup, FlatInput};
 use crate::result::Report;
-use crate::text::{Names, count_found, put_report};
+use crate::text::put_report;
 use crate::verdict::{Verdict, judge};
 use rsml_syntax::{NoMemory, Spec};
 use std::alloc::Global;

@@ -4,9 +4,12 @@
 mod analysis;
 mod body;
 mod build;
+mod chains;
+mod findings;
 mod flat;
 mod lookup;
 mod machine;
+mod puts;
 mod result;
 mod search;
 #[cfg(test)]

@@ -1,7 +1,7 @@
 use Rattle.std.proofs.Common.{◌++◌, ap, ◌∙◌}
 use Rattle.std.proofs.lemmas.Result.{on_ok_weaker}
 use Rattle.rsml_meaning.specs.Report.{last_line}
-use Rattle.flat_machine.proofs.Puts.{four}
+use Rattle.flat_machine.proofs.Appends.{four}
 use Rattle.flat_machine.proofs.text.put_report.Goals as goal
 
 pub returns : goal.returns

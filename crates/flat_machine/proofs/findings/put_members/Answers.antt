@@ -2,7 +2,7 @@ use Rattle.std.proofs.Common.{◌+◌, ◌++◌, drop, flat_map, ap, ◌∙◌}
 use Rattle.flat_machine.specs.Machine.{FlatMember, enabled_in, guard_truth}
 use Rattle.flat_machine.specs.FlatTexts.{member_line}
 use Rattle.flat_machine.proofs.Loops.{kept_put}
-use Rattle.flat_machine.proofs.text.put_members.Goals as goal
+use Rattle.flat_machine.proofs.findings.put_members.Goals as goal
 
 pub loop-member-preserved : goal.loop-member-preserved
 loop-member-preserved c =

@@ -1,7 +1,7 @@
 use Rattle.std.proofs.Common.{◌≡◌, ◌++◌, drop, flat_map}
 use Rattle.flat_machine.specs.Machine.{enabled_in}
 use Rattle.flat_machine.specs.FlatTexts.{member_line, members_text}
-use Rattle.flat_machine.proofs.text.put_members.Given as goal
+use Rattle.flat_machine.proofs.findings.put_members.Given as goal
 
 abbrev pub invariant-loop-member : goal.invariant-loop-member
 invariant-loop-member l =

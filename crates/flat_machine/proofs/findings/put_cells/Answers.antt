@@ -1,7 +1,7 @@
 use Rattle.std.proofs.Common.{◌+◌, ◌++◌, drop, flat_map, zip, ap, ◌∙◌}
 use Rattle.flat_machine.specs.FlatTexts.{flat_cell_line}
 use Rattle.flat_machine.proofs.Loops.{beside_put}
-use Rattle.flat_machine.proofs.text.put_cells.Goals as goal
+use Rattle.flat_machine.proofs.findings.put_cells.Goals as goal
 
 pub loop-place-preserved : goal.loop-place-preserved
 loop-place-preserved c =

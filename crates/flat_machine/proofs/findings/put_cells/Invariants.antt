@@ -1,6 +1,6 @@
 use Rattle.std.proofs.Common.{◌≡◌, ◌++◌, drop, flat_map, zip}
 use Rattle.flat_machine.specs.FlatTexts.{flat_cell_line}
-use Rattle.flat_machine.proofs.text.put_cells.Given as goal
+use Rattle.flat_machine.proofs.findings.put_cells.Given as goal
 
 abbrev pub invariant-loop-place : goal.invariant-loop-place
 invariant-loop-place l =
