@@ -79,6 +79,15 @@ fn refuses_a_text_that_is_too_long(rt: HostRuntime) -> Result<(), Fail> {
 }
 
 #[test]
+fn finds_the_fault_in_a_long_text(rt: HostRuntime) -> Result<(), Fail> {
+    let text = vec![in rt.alloc(); b'{'; 1_048_576]?;
+    let (status, sink) = outcome(rt.alloc(), &["check", "spec"], text.as_slice())?;
+    assert_eq!(rt; sink.bytes(), b"fault syntax token 1\n".as_slice());
+    assert_eq!(rt; status, Status::SpecFault);
+    Ok(())
+}
+
+#[test]
 fn takes_commands_alone(rt: HostRuntime) -> Result<(), Fail> {
     let wrong: [&[&str]; 5] = [
         &[],
