@@ -1,0 +1,126 @@
+ghost use Rattle.std.specs.Prelude.{◌≡◌, [], ◌∷◌, ◌++◌, IfOk, find, flat_map, length, map};
+ghost use Rattle.std.specs.Option.{option_map};
+ghost use Rattle.rsml_syntax.specs.Names.{same};
+ghost use Rattle.rsml_syntax.specs.Scopes as spec;
+ghost use Rattle.rsml_syntax.specs.Written as written;
+ghost use Rattle.rsml_syntax.specs.Globals as globals;
+ghost use Rattle.rsml_names.specs.Bound as names;
+
+use crate::declarations::{rows_of, values_of};
+use crate::names::Names;
+use rsml_syntax::{Case, Decl, NoMemory, Phrase, Row, SendCase, Text};
+use std::alloc::Global;
+use std::marker::Model;
+
+/// The variables of quantifiers in order, each with the place of the declaration that it stands in.
+#[derive(Drop)]
+pub struct Variables<'a> {
+    names: Names<'a>,
+    places: Vec<usize>,
+}
+
+impl<'a> Model for Variables<'a> {
+    ghost use Rattle.std.specs.Prelude.{◌≡◌, List, length};
+    ghost use Rattle.rsml_syntax.specs.Scopes as spec;
+    ghost use Rattle.rsml_names.specs.Bound.{joined};
+
+    ghost Value = { List spec.Variable };
+
+    ghost view = { λ v. joined v.names v.places.items };
+
+    ghost invariant = { λ v. length v.names ≡ length v.places.items };
+}
+
+impl<'a> Variables<'a> {
+    /// The variables of declarations. `names` is how many global names these have.
+    pub fn of(alloc: Global, decls: &'a [Decl], names: usize) -> Result<Variables<'a>, NoMemory>
+        requires { names ≡ length (flat_map globals.names_of decls.now) }
+        ensures { IfOk result (λ v. v ≡ spec.variables decls.now) }
+    {
+        let mut variables = Variables {
+            names: Names::new(alloc),
+            places: Vec::new(alloc),
+        };
+        let mut place: usize = 0;
+        for decl in decls {
+            variables = variables.with(place, decl)?;
+            place += 1 + values_of(decl).len();
+        }
+        Ok(variables)
+    }
+
+    /// These and the variables of a declaration of this place.
+    #[tactic(auto, using(crate::proofs::BoundLemmas::of_macro))]
+    fn with(self, place: usize, decl: &'a Decl) -> Result<Variables<'a>, NoMemory>
+        ensures { IfOk result (λ v. v ≡ self.entry ++ map (spec.variable_at place) (written.variables_in decl.now)) }
+    {
+        match decl {
+            Decl::Macro { rows, .. } => self.with_rows(place, rows.as_slice()),
+            Decl::Function { cases, .. } => self.with_cases(place, cases.as_slice()),
+            Decl::Send { cases, .. } => self.with_send_cases(place, cases.as_slice()),
+            _ => Ok(self),
+        }
+    }
+
+    /// These and the variables of the cases of a function.
+    fn with_cases(self, place: usize, cases: &'a [Case]) -> Result<Variables<'a>, NoMemory>
+        ensures { IfOk result (λ v. v ≡ self.entry ++ flat_map (λ c. names.of_guard place c.guard) cases.now) }
+    {
+        let mut variables = self;
+        for case in cases {
+            variables = variables.with_rows(place, rows_of(&case.guard))?;
+        }
+        Ok(variables)
+    }
+
+    /// These and the variables of the cases of a send.
+    fn with_send_cases(self, place: usize, cases: &'a [SendCase]) -> Result<Variables<'a>, NoMemory>
+        ensures { IfOk result (λ v. v ≡ self.entry ++ flat_map (λ c. names.of_guard place c.guard) cases.now) }
+    {
+        let mut variables = self;
+        for case in cases {
+            variables = variables.with_rows(place, rows_of(&case.guard))?;
+        }
+        Ok(variables)
+    }
+
+    /// These and the variables of the rows of a table.
+    fn with_rows(self, place: usize, rows: &'a [Row]) -> Result<Variables<'a>, NoMemory>
+        ensures { IfOk result (λ v. v ≡ self.entry ++ names.of_rows place rows.now) }
+    {
+        let mut variables = self;
+        for row in rows {
+            variables = variables.with_phrase(place, &row.phrase)?;
+        }
+        Ok(variables)
+    }
+
+    /// These and the variable of a phrase, if it has one.
+    fn with_phrase(self, place: usize, phrase: &'a Phrase) -> Result<Variables<'a>, NoMemory>
+        ensures { IfOk result (λ v. v ≡ self.entry ++ names.of_phrase place phrase.now) }
+    {
+        match phrase {
+            Phrase::Plain(_) => Ok(self),
+            Phrase::Any { variable, .. } => self.put(place, variable),
+            Phrase::Every { variable, .. } => self.put(place, variable),
+        }
+    }
+
+    /// These and one more.
+    fn put(self, place: usize, name: &'a Text) -> Result<Variables<'a>, NoMemory>
+        ensures { IfOk result (λ v. v ≡ self.entry ++ spec.variable_at place name.now ∷ []) }
+    {
+        let Variables { names, mut places } = self;
+        let (names, _) = names.put(name.bytes())?;
+        places.push(place)?;
+        Ok(Variables { names, places })
+    }
+
+    /// The place of the declaration with the first variable of this name.
+    pub fn first(&self, name: &Text) -> Option<usize>
+        ensures { result ≡ option_map (λ v. v.place) (find (λ v. same name.now v.name) self.now) }
+    {
+        let first = self.names.find(name.bytes())?;
+        self.places.get(first).copied()
+    }
+}
