@@ -1,0 +1,3 @@
+pub mod CountLimits
+pub mod Counting
+pub mod PreviousNames
