@@ -1,0 +1,11 @@
+pub mod AnsweredLemmas
+pub mod CountLemmas
+pub mod DistinctLemmas
+pub mod EqualityLemmas
+pub mod EquivalenceLemmas
+pub mod Gathering
+pub mod InsertLemmas
+pub mod QuestionLemmas
+pub mod SumLemmas
+pub mod Walking
+pub mod Written

@@ -1,0 +1,4 @@
+pub mod Asked
+pub mod Gathered
+pub mod Searched
+pub mod Shown

@@ -1,0 +1,7 @@
+/// The relation of a key.
+#[derive(Clone, Copy, PartialEq, Eq, Hash)]
+pub enum Order {
+    Equal,
+    Less,
+    LessEqual,
+}
