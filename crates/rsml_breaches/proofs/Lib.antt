@@ -1,0 +1,9 @@
+pub mod DeclarationLemmas
+pub mod FirstLemmas
+pub mod Kinship
+pub mod Noting
+pub mod OwnerLemmas
+pub mod Raising
+pub mod Sources
+pub mod Walking
+pub mod WholeLemmas

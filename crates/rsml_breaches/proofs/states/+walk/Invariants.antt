@@ -1,0 +1,12 @@
+use Rattle.std.proofs.Common.{◌≡◌, [], drop}
+use Rattle.std.specs.Prelude.{flat_map}
+use Rattle.std.specs.Option.{option_copied}
+use Rattle.rsml_syntax.specs.Breaches.{noted}
+use Rattle.rsml_syntax.specs.Parts as parts
+use Rattle.rsml_syntax.specs.Rules as rules
+use Rattle.rsml_breaches.proofs.states.+walk.Given as goal
+
+abbrev pub invariant-each_child-loop-place : goal.invariant-each_child-loop-place
+invariant-each_child-loop-place l =
+    noted l.worst (flat_map (rules.judged l.setting.whole) (parts.child_parts l.in_one (option_copied l.array) l.earlier (drop l.place l.children)))
+    ≡ noted l.fn.worst (flat_map (rules.judged l.setting.whole) (parts.child_parts l.in_one (option_copied l.array) [] l.children))

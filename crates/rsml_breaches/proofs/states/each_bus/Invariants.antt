@@ -1,0 +1,10 @@
+use Rattle.std.proofs.Common.{◌≡◌, ◌++◌, drop, take, map}
+use Rattle.rsml_syntax.specs.declared.syntax.Bus.{Bus}
+use Rattle.rsml_syntax.specs.Breaches.{noted}
+use Rattle.rsml_syntax.specs.States as states
+use Rattle.rsml_breaches.proofs.states.each_bus.Given as goal
+
+abbrev pub invariant-loop-bus : goal.invariant-loop-bus
+invariant-loop-bus l =
+    (l.names ≡ l.fn.earlier ++ map (λ (b : Bus). b.name) (take l.bus-index l.buses))
+    × (noted l.worst (states.buses l.children l.names (drop l.bus-index l.buses)) ≡ noted l.fn.worst (states.buses l.children l.fn.earlier l.buses))

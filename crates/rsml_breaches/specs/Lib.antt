@@ -1,0 +1,4 @@
+pub mod Initials
+pub mod Keys
+pub mod Settings
+pub mod Walks
