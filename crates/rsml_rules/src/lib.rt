@@ -1,0 +1,8 @@
+//! The rules S1 to S16 and the limits L1 to L7 of a specification.
+#![tactic(auto)]
+
+mod checking;
+mod error;
+
+pub use checking::check_rules;
+pub use error::RuleError;
