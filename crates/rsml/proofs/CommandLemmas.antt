@@ -1,14 +1,13 @@
 -- What a command leaves, from what its action leaves.
-use Rattle.std.proofs.Common.{◌≡◌, ◌≢◌, ℕ, ◌<◌, ◌⊎◌, inl, inr, List, ◌∷◌, [], Option, Some, None, length, refl, ap, sym, ◌∙◌, subst}
+use Rattle.std.proofs.Common.{◌≡◌, ◌≢◌, ℕ, ◌<◌, ◌⊎◌, inl, inr, Option, Some, None, length, refl, sym, ◌∙◌, subst}
 use Rattle.std.specs.Prelude.{IfSome}
 use Rattle.rsml_io.specs.Counts.{Rose}
-use Rattle.rsml_io.specs.Writing.{appended, AppendsProperPrefix}
 use Rattle.rsml.specs.Acts.{HasWritten, HasActed}
-use Rattle.rsml.specs.Commands.{Bytes, Command, with_file, command_of}
+use Rattle.rsml.specs.Commands.{Bytes, with_file, command_of}
 use Rattle.rsml.specs.Faults.{usage_line, long_line}
 use Rattle.rsml.specs.Output.{ActionOutput, Output, acted, no_command, too_long, greatest_text}
 use Rattle.rsml.specs.Output as output
-use Rattle.rsml.specs.Promises.{Meeting, Runs, Tells, Writes, IsUsage, IsAnswered, LeavesFront, IsComplete, ReadRefused, WriteRefused}
+use Rattle.rsml.specs.Promises.{Meeting, Runs, Writes, IsAnswered, LeavesFront, IsComplete, ReadRefused}
 use Rattle.rsml.specs.declared.command.Action.{Action}
 use Rattle.rsml.specs.declared.command.Action.TheVariants as action
 use Rattle.rsml.specs.declared.status.Status.{Status}

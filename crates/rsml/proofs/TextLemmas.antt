@@ -1,5 +1,5 @@
 -- What a text comes to, by what the lexer and the parser answered.
-use Rattle.std.proofs.Common.{◌≡◌, ◌≤◌, ◌⊎◌, inl, inr, ℕ, List, length, Result, Ok, Err, refl, ap, sym, ◌∙◌}
+use Rattle.std.proofs.Common.{◌≡◌, ◌≤◌, inl, inr, ℕ, List, length, Result, Ok, Err}
 use Rattle.std.specs.Prelude.{IfOk}
 use Rattle.rsml_lexer.specs.Reading.{error_of}
 use Rattle.rsml_lexer.specs.declared.fault.LexError.{LexError}
@@ -12,8 +12,8 @@ use Rattle.rsml_syntax.specs.declared.edition.Edition.TheVariants as edition
 use Rattle.rsml_syntax.specs.declared.no_memory.NoMemory.{NoMemory}
 use Rattle.rsml_syntax.specs.declared.token.Placed.{Placed}
 use Rattle.rsml.specs.Commands.{Bytes}
-use Rattle.rsml.specs.Faults.{lexical_line, syntax_line, depth_line}
-use Rattle.rsml.specs.Output.{greatest_text, IsUnread, no_tokens, no_syntax, too_deep, IsTextOf}
+use Rattle.rsml.specs.Faults.{lexical_line}
+use Rattle.rsml.specs.Output.{greatest_text, IsUnread, no_tokens, no_syntax, too_deep}
 use Rattle.rsml.specs.Readings.{IsFaultLine, IsLexicalLine, IsParseLine, IsParsed, IsReading}
 use Rattle.rsml.specs.declared.outcome.Outcome.{Outcome}
 use Rattle.rsml.specs.declared.reading.Reading.{Reading}

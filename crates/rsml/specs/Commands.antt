@@ -1,5 +1,5 @@
 -- The commands: what the words after the program's name ask for.
-use Rattle.std.specs.Prelude.{ℕ, Bool, true, false, List, [], ◌∷◌, Option, Some, None, codes, option_map}
+use Rattle.std.specs.Prelude.{ℕ, true, false, List, [], ◌∷◌, Option, Some, None, codes, option_map}
 use Rattle.rsml_syntax.specs.Names.{same}
 use Rattle.rsml.specs.declared.command.Action.{Action}
 use Rattle.rsml.specs.declared.command.Action.TheVariants as action

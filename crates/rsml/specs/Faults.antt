@@ -1,5 +1,6 @@
 -- The lines that are written in place of a report.
-use Rattle.std.specs.Prelude.{ℕ, List, ◌++◌, codes, decimal}
+use Rattle.std.specs.Prelude.{ℕ, ◌++◌, codes, decimal}
+use Rattle.rsml_syntax.specs.Breaches.{Breach}
 use Rattle.rsml_syntax.specs.Lexing.{Fault, NotUtf8, BadCharacter, NumberTooBig}
 use Rattle.rsml.specs.Commands.{Bytes}
 
@@ -18,6 +19,14 @@ not_built_line = codes "fault not built\n"
 -- `fault ..`, a number, and LF
 abbrev pub numbered_line : Bytes → ℕ → Bytes
 numbered_line words n = codes "fault " ++ (words ++ (decimal n ++ codes "\n"))
+
+-- `fault SN NAME`: rule N is broken at the name
+abbrev pub rule_line : Breach → Bytes
+rule_line b = codes "fault S" ++ (decimal b.rule ++ (codes " " ++ (b.shown ++ codes "\n")))
+
+-- `fault LN COUNT`: limit N is broken, with this count
+abbrev pub limit_line : ℕ × ℕ → Bytes
+limit_line over = codes "fault L" ++ (decimal over.0 ++ (codes " " ++ (decimal over.1 ++ codes "\n")))
 
 -- a text that has no token list: the byte's offset, counted from 0
 abbrev pub lexical_line : Fault → Bytes

@@ -1,6 +1,7 @@
 pub mod Acts
 pub mod Commands
 pub mod Faults
+pub mod Headline
 pub mod Outcomes
 pub mod Output
 pub mod Promises

@@ -5,6 +5,7 @@ use Rattle.rsml.specs.declared.status.Status.TheVariants as status
 
 abbrev pub number : Status → ℕ
 number status.Done = 0
+number status.Refused = 1
 number status.SpecFault = 2
 number status.Usage = 4
 number status.ReadFault = 5

@@ -1,5 +1,6 @@
 ghost use Rattle.std.specs.Prelude.{◌≡◌, ◌++◌, decimal, IfOk, OnOk};
 ghost use Rattle.rsml.specs.Faults as lines;
+ghost use Rattle.rsml.specs.Outcomes.{IsRuleLine};
 ghost use Rattle.rsml.specs.Readings.{IsFaultLine, IsLexicalLine, IsParseLine};
 
 use crate::outcome::Outcome;
@@ -7,6 +8,7 @@ use crate::status::Status;
 use itoa::Buffer;
 use rsml_lexer::LexError;
 use rsml_parser::ParseError;
+use rsml_rules::RuleError;
 use rsml_syntax::NoMemory;
 use std::alloc::Global;
 
@@ -66,5 +68,42 @@ pub fn parse_fault(alloc: Global, error: ParseError) -> Result<Outcome, NoMemory
         ParseError::Syntax { token } => numbered(alloc, b"syntax token ", token),
         ParseError::TooDeep { token } => numbered(alloc, b"depth token ", token),
         ParseError::NoMemory => Err(NoMemory),
+    }
+}
+
+/// `fault S`, the number of a rule, and the name at which it is broken.
+#[tactic(auto, using(std::proofs::lemmas::List::append_assoc))]
+fn rule_line(alloc: Global, number: u8, name: &[u8]) -> Result<Outcome, NoMemory>
+    ensures { IfOk result (IsFaultLine (lines.rule_line (record { rule = number; shown = name.now }))) }
+{
+    let mut text = Vec::from_slice(alloc, b"fault S")?;
+    put_number(&mut text, u64::from(number))?;
+    put(&mut text, b" ")?;
+    put(&mut text, name)?;
+    put(&mut text, b"\n")?;
+    Ok(told(text))
+}
+
+/// `fault L`, the number of a limit, and the count.
+#[tactic(auto, using(std::proofs::lemmas::List::append_assoc))]
+fn limit_line(alloc: Global, number: u8, count: u64) -> Result<Outcome, NoMemory>
+    ensures { IfOk result (IsFaultLine (lines.limit_line (number, count))) }
+{
+    let mut text = Vec::from_slice(alloc, b"fault L")?;
+    put_number(&mut text, u64::from(number))?;
+    put(&mut text, b" ")?;
+    put_number(&mut text, count)?;
+    put(&mut text, b"\n")?;
+    Ok(told(text))
+}
+
+/// The line on a specification that breaks a rule or a limit.
+pub fn rule_fault(alloc: Global, error: RuleError) -> Result<Outcome, NoMemory>
+    ensures { IfOk result (IsRuleLine error) }
+{
+    match error {
+        RuleError::Rule { number, name } => rule_line(alloc, number, name.bytes()),
+        RuleError::Limit { number, count } => limit_line(alloc, number, count),
+        RuleError::NoMemory => Err(NoMemory),
     }
 }

@@ -1,12 +1,17 @@
-ghost use Rattle.std.specs.Prelude.{◌≤◌, length, IfOk};
+ghost use Rattle.std.specs.Prelude.{◌≤◌, length, IfOk, IsTrue};
+ghost use Rattle.flat_machine.specs.Flat.{is_flat};
+ghost use Rattle.rsml_syntax.specs.Limits.{Keeps};
 ghost use Rattle.rsml_syntax.specs.WellFormed.{WellFormed};
 ghost use Rattle.rsml.specs.Acts.{IsOfText};
 ghost use Rattle.rsml.specs.Output.{ActionOutput};
-ghost use Rattle.rsml.specs.Outcomes.{IsLaidOut, IsNotBuilt};
+ghost use Rattle.rsml.specs.Outcomes.{IsJudged, IsLaidOut, IsNotBuilt};
 
 use crate::command::Action;
+use crate::fault_lines::rule_fault;
 use crate::reading::{Reading, read_text};
 use crate::status::Status;
+use flat_machine::{is_flat, report};
+use rsml_rules::check_rules;
 use rsml_syntax::{NoMemory, Spec, print_spec};
 use std::alloc::Global;
 
@@ -29,14 +34,55 @@ fn lay_out(alloc: Global, spec: &Spec) -> Result<Outcome, NoMemory>
     })
 }
 
-/// What `check` comes to on a specification.
-fn check(alloc: Global) -> Result<Outcome, NoMemory>
+/// That the analysis is not built.
+fn not_built(alloc: Global) -> Result<Outcome, NoMemory>
     ensures { IfOk result IsNotBuilt }
 {
     Ok(Outcome {
         status: Status::NotBuilt,
         text: Vec::from_slice(alloc, b"fault not built\n")?,
     })
+}
+
+/// What `check` comes to on a flat specification that keeps the rules and the limits.
+fn analyse_flat(alloc: Global, spec: &Spec) -> Result<Outcome, NoMemory>
+    requires keeps { Keeps spec.now }
+    requires flat { IsTrue (is_flat spec.now) }
+    ensures { IfOk result (IsJudged spec.now) }
+{
+    let report = report(alloc, spec)?;
+    let status = if report.certified {
+        Status::Done
+    } else {
+        Status::Refused
+    };
+    Ok(Outcome {
+        status,
+        text: report.text,
+    })
+}
+
+/// What `check` comes to on a specification that keeps the rules and the limits.
+fn analyse(alloc: Global, spec: &Spec) -> Result<Outcome, NoMemory>
+    requires { Keeps spec.now }
+    ensures { IfOk result (IsJudged spec.now) }
+{
+    if is_flat(spec) {
+        analyse_flat(alloc, spec)
+    } else {
+        not_built(alloc)
+    }
+}
+
+/// What `check` comes to on a specification.
+fn check(alloc: Global, spec: Spec) -> Result<Outcome, NoMemory>
+    requires { WellFormed spec }
+    ensures { IfOk result (IsJudged spec) }
+{
+    match check_rules(alloc, spec) {
+        Ok(checked) => analyse(alloc, checked.spec()),
+        Err(error) => rule_fault(alloc, error),
+    }
 }
 
 /// What an action comes to on a text.
@@ -48,7 +94,7 @@ pub fn outcome_of(alloc: Global, action: Action, text: &[u8]) -> Result<Outcome,
     match read_text(alloc, text)? {
         Reading::Unread(outcome) => Ok(outcome),
         Reading::Read(spec) => match action {
-            Action::Check => check(alloc),
+            Action::Check => check(alloc, spec),
             Action::Format => lay_out(alloc, &spec),
         },
     }

@@ -2,12 +2,15 @@ ghost use Rattle.std.specs.Prelude.{◌≡◌, map, string_bytes, List, ℕ, len
 ghost use Rattle.rsml.specs.Commands.{Command as Asked};
 ghost use Rattle.rsml.specs.Faults as line;
 ghost use Rattle.rsml.specs.Acts as acts;
+ghost use Rattle.rsml.specs.Headline.{Certifies, Refuses};
 ghost use Rattle.rsml.specs.Promises.{Runs, meeting};
 
 use crate::command::{Action, command_in};
 use crate::outcome::outcome_of;
 use crate::status::Status;
+use one_run::certified_specifications_are_deterministic;
 use rsml_io::{Files, ReadError, Sink, read_all, write_all};
+use rsml_parser::at_most_one_specification;
 use rsml_syntax::NoMemory;
 use std::alloc::Global;
 
@@ -67,7 +70,15 @@ pub fn run<F: Files, K: Sink>(
         (F.contents files.old) (F.faults files.old) (F.faults files.new)
         (K.written sink.old) (K.written sink.new) (K.faults sink.old) (K.faults sink.new)) result }
     ensures contents { (file : List ℕ) → F.contents files.new file ≡ F.contents files.old file }
+    ensures certified { Certifies (meeting (map (λ word. string_bytes word) words.now)
+        (F.contents files.old) (F.faults files.old) (F.faults files.new)
+        (K.written sink.old) (K.written sink.new) (K.faults sink.old) (K.faults sink.new)) result }
+    ensures refused { Refuses (meeting (map (λ word. string_bytes word) words.now)
+        (F.contents files.old) (F.faults files.old) (F.faults files.new)
+        (K.written sink.old) (K.written sink.new) (K.faults sink.old) (K.faults sink.new)) result }
 {
+    at_most_one_specification();
+    certified_specifications_are_deterministic();
     match command_in(words) {
         Some(command) => act(alloc, command.action, command.file, files, sink),
         None => finish(sink, b"usage: rsml COMMAND WORDS\n", Status::Usage),

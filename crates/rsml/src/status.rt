@@ -5,7 +5,9 @@ ghost use Rattle.std.specs.Prelude.{◌≡◌};
 pub enum Status {
     /// The command did its work.
     Done,
-    /// The specification does not read.
+    /// The specification is not certified.
+    Refused,
+    /// The specification does not read, or breaks a rule or a limit.
     SpecFault,
     /// The words are no command.
     Usage,
@@ -30,6 +32,7 @@ impl Status {
     {
         match self {
             Status::Done => 0,
+            Status::Refused => 1,
             Status::SpecFault => 2,
             Status::Usage => 4,
             Status::ReadFault => 5,

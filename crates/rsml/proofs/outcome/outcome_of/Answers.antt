@@ -7,5 +7,5 @@ returns-in-Unread-clause-output c = unread_output _ _ _ _ (unread_is _ _ _ c.in-
 pub returns-in-Check-clause-output : goal.returns-in-Check-clause-output
 returns-in-Check-clause-output c = rw c.in-Check.is (check_output _ _ _ (read_is _ _ _ c.in-Read.is c.in_ok-outcome.ensures) c.check.ensures)
 
-pub returns-clause-output : goal.returns-clause-output
-returns-clause-output c = rw c.in-Format.is (format_output _ _ _ (read_is _ _ _ c.in-Read.is c.in_ok-outcome.ensures) c.lay_out.ensures)
+pub returns-in-Format-clause-output : goal.returns-in-Format-clause-output
+returns-in-Format-clause-output c = rw c.in-Format.is (format_output _ _ _ (read_is _ _ _ c.in-Read.is c.in_ok-outcome.ensures) c.lay_out.ensures)
