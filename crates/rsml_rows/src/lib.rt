@@ -4,6 +4,12 @@
 #[cfg(test)]
 mod faults;
 #[cfg(test)]
+mod limits;
+#[cfg(test)]
+mod reports;
+#[cfg(test)]
+mod rules;
+#[cfg(test)]
 mod session;
 #[cfg(test)]
 mod texts;
