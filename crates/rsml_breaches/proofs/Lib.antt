@@ -1,4 +1,5 @@
 pub mod DeclarationLemmas
+pub mod Earlier
 pub mod FirstLemmas
 pub mod Kinship
 pub mod Noting

@@ -1,5 +1,5 @@
 //! States where they open and where they close: S1, S5, S10, S11 and S13.
-ghost use Rattle.std.specs.Prelude.{◌≡◌, ◌++◌, [], IfOk, OnOk, flat_map, map, true};
+ghost use Rattle.std.specs.Prelude.{◌≡◌, [], IfOk, OnOk, flat_map, map, take, true};
 ghost use Rattle.std.specs.List.{list_all};
 ghost use Rattle.std.specs.Option.{option_copied, option_map_or};
 ghost use Rattle.rsml_syntax.specs.Names.{is_in};
@@ -84,22 +84,22 @@ fn are_members(alloc: Global, children: &Names<'_>, members: &[Text]) -> Result<
     Ok(are_children(children, members) && !has_repeat(alloc, members)?)
 }
 
-/// Buses beside these children, after these names of children and buses; and then all the names.
+/// Buses beside these children; and then the names of the buses.
 fn each_bus<'a>(
     alloc: Global,
     children: &Names<'a>,
-    earlier: Names<'a>,
     buses: &'a [Bus],
     worst: &mut Worst<'a>,
 ) -> Result<Names<'a>, NoMemory>
-    ensures worst { OnOk result (worst.new ≡ noted worst.old (spec.buses children.now earlier.entry buses.now)) }
-    ensures names { IfOk result (λ names. names ≡ earlier.entry ++ map (λ b. b.name) buses.now) }
+    ensures worst { OnOk result (worst.new ≡ noted worst.old (spec.buses children.now children.now buses.now)) }
+    ensures names { IfOk result (λ names. names ≡ map (λ b. b.name) buses.now) }
 {
-    let mut names = earlier;
+    let mut names = Names::new(alloc);
     for bus in buses {
         let (more, again) = names.put(bus.name.bytes())?;
         names = more;
-        worst.note(1, bus.name.bytes(), again);
+        let taken = children.has(bus.name.bytes()) || again;
+        worst.note(1, bus.name.bytes(), taken);
         let right = are_members(alloc, children, bus.members.as_slice())?;
         worst.note(11, bus.name.bytes(), !right);
     }
@@ -132,8 +132,7 @@ fn closing<'a>(
     ensures { OnOk result (worst.new ≡ noted worst.old (spec.closing setting.now.whole state.now)) }
 {
     let body = state.body;
-    let again = names_of(alloc, children_of(body))?;
-    let sources = each_bus(alloc, names, again, buses_of(body), worst)?;
+    let buses = each_bus(alloc, names, buses_of(body), worst)?;
     let scope = state_scope(setting.whole(), state);
     each_transition(
         alloc,
@@ -141,7 +140,8 @@ fn closing<'a>(
         &scope,
         body,
         family,
-        &sources,
+        names,
+        &buses,
         transitions_of(body),
         worst,
     )
@@ -178,7 +178,7 @@ fn judged<'a>(
     let names = names_of(alloc, children_of(body))?;
     opening(setting, state, &names, worst);
     let array = nearer(state.size, state.array);
-    inside(alloc, setting, array, body, family, worst)?;
+    inside(alloc, setting, array, body, family, &names, worst)?;
     closing(alloc, setting, state, family, &names, worst)
 }
 
@@ -190,9 +190,11 @@ fn inside<'a>(
     array: Option<&'a Amount>,
     body: &'a Body,
     family: usize,
+    names: &Names<'a>,
     worst: &mut Worst<'a>,
 ) -> Result<(), NoMemory>
-    requires { Holds setting.now.families family (parts.children_of body.now) }
+    requires family { Holds setting.now.families family (parts.children_of body.now) }
+    requires names { names.now ≡ spec.child_names body.now }
     ensures { OnOk result (worst.new ≡ noted worst.old (flat_map (rules.judged setting.now.whole) (parts.inside (option_copied array.entry) body.now))) }
 {
     match body {
@@ -205,6 +207,7 @@ fn inside<'a>(
                 array,
                 children.as_slice(),
                 family,
+                names,
                 worst,
             )
         }
@@ -216,13 +219,25 @@ fn inside<'a>(
                 array,
                 children.as_slice(),
                 family,
+                names,
                 worst,
             )
         }
     }
 }
 
-/// Children.
+/// Whether a name is among the first so many.
+#[tactic(auto, using(crate::proofs::Earlier::is_earlier))]
+fn is_earlier(names: &Names<'_>, place: usize, name: &Text) -> bool
+    ensures { result ≡ is_in name.now (take place names.now) }
+{
+    match names.find(name.bytes()) {
+        Some(first) => first < place,
+        None => false,
+    }
+}
+
+/// Children with these names.
 #[cycle(walk)]
 fn each_child<'a>(
     alloc: Global,
@@ -231,18 +246,17 @@ fn each_child<'a>(
     array: Option<&'a Amount>,
     children: &'a [StateDecl],
     family: usize,
+    names: &Names<'a>,
     worst: &mut Worst<'a>,
 ) -> Result<(), NoMemory>
-    requires { Holds setting.now.families family children.now }
+    requires family { Holds setting.now.families family children.now }
+    requires names { names.now ≡ map (λ c. c.name) children.now }
     ensures { OnOk result (worst.new ≡ noted worst.old (flat_map (rules.judged setting.now.whole) (parts.child_parts in_one (option_copied array.entry) [] children.now))) }
 {
-    let mut earlier = Names::new(alloc);
     for (place, child) in children.iter().enumerate() {
-        let (names, repeated) = earlier.put(child.name.bytes())?;
-        earlier = names;
         let state = State {
             name: &child.name,
-            repeated,
+            repeated: is_earlier(names, place, &child.name),
             size: child.size.as_ref(),
             array,
             in_one,

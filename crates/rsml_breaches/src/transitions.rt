@@ -1,5 +1,5 @@
 //! Transitions: S12 at sources and targets, S14 at what they raise, and what they use.
-ghost use Rattle.std.specs.Prelude.{◌≡◌, ◌++◌, [], OnOk, flat_map};
+ghost use Rattle.std.specs.Prelude.{◌≡◌, [], OnOk, flat_map};
 ghost use Rattle.rsml_syntax.specs.Parts as parts;
 ghost use Rattle.rsml_syntax.specs.States as spec;
 ghost use Rattle.rsml_syntax.specs.Breaches.{noted};
@@ -52,24 +52,26 @@ fn raised_again<'a>(
 
 /// A transition of a state whose children are this family, where these are the names of the children
 /// and of the buses.
-#[tactic(auto, using(crate::proofs::Noting::noted_append, crate::proofs::Sources::in_either))]
 fn transition_used<'a>(
     alloc: Global,
     setting: &Setting<'a>,
     scope: &Scope<'a>,
     body: &'a Body,
     family: usize,
-    sources: &Names<'a>,
+    children: &Names<'a>,
+    buses: &Names<'a>,
     transition: &'a Transition,
     worst: &mut Worst<'a>,
 ) -> Result<(), NoMemory>
     requires family { Holds setting.now.families family (parts.children_of body.now) }
-    requires sources { sources.now ≡ spec.child_names body.now ++ spec.bus_names body.now }
+    requires children { children.now ≡ spec.child_names body.now }
+    requires buses { buses.now ≡ spec.bus_names body.now }
     ensures { OnOk result (worst.new ≡ noted worst.old (spec.transition setting.now.whole scope.now body.now transition.now)) }
 {
     let whole = setting.whole();
     let source = &transition.source;
-    worst.note(12, source.bytes(), !sources.has(source.bytes()));
+    let is_source = children.has(source.bytes()) || buses.has(source.bytes());
+    worst.note(12, source.bytes(), !is_source);
     guard_owner(setting, source, &transition.guard, worst);
     target(setting.families(), body, family, &transition.target, worst);
     mentioned(whole, scope, Want::Event, &transition.trigger, worst);
@@ -91,17 +93,19 @@ pub fn each_transition<'a>(
     scope: &Scope<'a>,
     body: &'a Body,
     family: usize,
-    sources: &Names<'a>,
+    children: &Names<'a>,
+    buses: &Names<'a>,
     transitions: &'a [Transition],
     worst: &mut Worst<'a>,
 ) -> Result<(), NoMemory>
     requires family { Holds setting.now.families family (parts.children_of body.now) }
-    requires sources { sources.now ≡ spec.child_names body.now ++ spec.bus_names body.now }
+    requires children { children.now ≡ spec.child_names body.now }
+    requires buses { buses.now ≡ spec.bus_names body.now }
     ensures { OnOk result (worst.new ≡ noted worst.old (flat_map (spec.transition setting.now.whole scope.now body.now) transitions.now)) }
 {
     for transition in transitions {
         transition_used(
-            alloc, setting, scope, body, family, sources, transition, worst,
+            alloc, setting, scope, body, family, children, buses, transition, worst,
         )?;
     }
     Ok(())

@@ -1,13 +1,13 @@
-use Rattle.std.proofs.Common.{◌≡◌, ◌++◌, ◌∷◌, [], List, Option, true, false, refl, ap, sym, ◌∙◌, subst}
+use Rattle.std.proofs.Common.{◌≡◌, ◌+◌, [], List, take, Option, true, false, refl, ap, sym, ◌∙◌, subst}
 use Rattle.std.specs.Prelude.{flat_map, OnOk}
 use Rattle.std.specs.Option.{option_copied}
 use Rattle.std.proofs.lemmas.Option.{slice_get_read}
 use Rattle.rsml_syntax.specs.declared.syntax.Body.{Body}
-use Rattle.rsml_syntax.specs.Names.{Name, is_in}
 use Rattle.rsml_syntax.specs.Breaches.{Breach, noted}
 use Rattle.rsml_syntax.specs.Parts as parts
 use Rattle.rsml_syntax.specs.Rules as rules
 use Rattle.rsml_names.specs.Kin.{Family, Holds}
+use Rattle.rsml_breaches.proofs.Earlier.{names_turn}
 use Rattle.rsml_breaches.proofs.Kinship.{held_none}
 use Rattle.rsml_breaches.proofs.Walking.{inside_one, inside_all, state_noted, child_turn}
 use Rattle.rsml_breaches.proofs.states.+walk.Goals as goal
@@ -39,20 +39,20 @@ each_child-loop-place-preserved t c =
     let cs = c.args.children.now in
     let i = c.loop-place.place in
     let x = c.index-children-place.result in
-    let earlier = c.loop-place.earlier in
+    let names = c.args.names.now in
     elim c.match-below.branch [
       | each_child-in-Some+in_ok-judged w ↦
-          child_turn c.args.setting.now.whole c.loop-place.worst c.match-below.worst _ c.args.in_one (option_copied c.args.array) earlier c.in_ok-names.names cs i x c.in_ok-names.repeated (option_copied c.as_ref.result)
+          child_turn c.args.setting.now.whole c.loop-place.worst c.match-below.worst _ c.args.in_one (option_copied c.args.array) (take i names) (take (i + 1) names) cs i x c.is_earlier.result (option_copied c.as_ref.result)
           c.loop-place-test.true
           c.index-children-place.is
-          (c.in_ok-names.ensures.0 ∙ ap (λ (n : Name). earlier ++ n ∷ []) c.bytes.ensures)
-          (c.in_ok-names.ensures.1 ∙ ap (λ (n : Name). is_in n earlier) c.bytes.ensures)
+          (names_turn names cs i x c.requires.names c.loop-place-test.true c.index-children-place.is)
+          c.is_earlier.ensures
           c.as_ref.ensures.value
           (w.worst-is ∙ w.in_ok-judged.ensures)
           c.loop-place.invariant
       | each_child-in_default w ↦
           held_none c.families.result.now c.below.result x w.in_default.is
           (c.below.ensures cs x
-          (subst (λ (fs : List Family). Holds fs c.args.family cs) (sym c.families.ensures) c.requires)
+          (subst (λ (fs : List Family). Holds fs c.args.family cs) (sym c.families.ensures) c.requires.family)
           (slice_get_read cs _ i x refl c.loop-place-test.true c.index-children-place.is))
     ]

@@ -1,4 +1,4 @@
-use Rattle.std.proofs.Common.{◌≡◌, [], drop}
+use Rattle.std.proofs.Common.{◌≡◌, [], drop, take}
 use Rattle.std.specs.Prelude.{flat_map}
 use Rattle.std.specs.Option.{option_copied}
 use Rattle.rsml_syntax.specs.Breaches.{noted}
@@ -8,5 +8,5 @@ use Rattle.rsml_breaches.proofs.states.+walk.Given as goal
 
 abbrev pub invariant-each_child-loop-place : goal.invariant-each_child-loop-place
 invariant-each_child-loop-place l =
-    noted l.worst (flat_map (rules.judged l.setting.whole) (parts.child_parts l.in_one (option_copied l.array) l.earlier (drop l.place l.children)))
+    noted l.worst (flat_map (rules.judged l.setting.whole) (parts.child_parts l.in_one (option_copied l.array) (take l.place l.names) (drop l.place l.children)))
     ≡ noted l.fn.worst (flat_map (rules.judged l.setting.whole) (parts.child_parts l.in_one (option_copied l.array) [] l.children))

@@ -6,5 +6,5 @@ use Rattle.rsml_breaches.proofs.states.each_bus.Given as goal
 
 abbrev pub invariant-loop-bus : goal.invariant-loop-bus
 invariant-loop-bus l =
-    (l.names ≡ l.fn.earlier ++ map (λ (b : Bus). b.name) (take l.bus-index l.buses))
-    × (noted l.worst (states.buses l.children l.names (drop l.bus-index l.buses)) ≡ noted l.fn.worst (states.buses l.children l.fn.earlier l.buses))
+    (l.names ≡ map (λ (b : Bus). b.name) (take l.bus-index l.buses))
+    × (noted l.worst (states.buses l.children (l.children ++ l.names) (drop l.bus-index l.buses)) ≡ noted l.fn.worst (states.buses l.children l.children l.buses))
