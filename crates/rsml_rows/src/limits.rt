@@ -94,7 +94,7 @@ const LIMITS: [(Repeated, u32, &str); 7] = [
     (
         Repeated {
             head: "",
-            piece: ["macro M", " [64] { every i 64 (1 = 1) | T; } #", "\n"],
+            piece: ["macro M", " [64] { every i of 64 : 1 = 1 | T; } #", "\n"],
             tail: "state A;",
         },
         16,

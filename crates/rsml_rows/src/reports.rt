@@ -81,6 +81,8 @@ fn refuses_the_first_write_and_the_first_read(rt: HostRuntime) -> Result<(), Fai
     let status = run(rt.alloc(), words.as_slice(), &mut files, &mut sink);
     assert_eq!(rt; status, Status::WriteFault);
     assert!(rt; sink.bytes().is_empty());
+    let mut files = MemoryFiles::new(rt.alloc(), 4096);
+    files.add("spec", text.as_bytes())?;
     files.fail_call(1)?;
     let mut sink = MemorySink::new(rt.alloc(), 1000)?;
     let status = run(rt.alloc(), words.as_slice(), &mut files, &mut sink);
@@ -90,10 +92,26 @@ fn refuses_the_first_write_and_the_first_read(rt: HostRuntime) -> Result<(), Fai
 }
 
 #[test]
-fn says_what_is_not_built(rt: HostRuntime) -> Result<(), Fail> {
-    let text = b"specification A; state A all { state B; }";
+fn certifies_a_basic_state(rt: HostRuntime) -> Result<(), Fail> {
+    let text = b"specification Still;state Still;#x";
     let (status, sink) = outcome(rt.alloc(), &["check", "spec"], text)?;
-    assert_eq!(rt; status, Status::NotBuilt);
-    assert_eq!(rt; sink.bytes(), b"fault not built\n".as_slice());
+    let report = b"specification Still\ngroups 0\ncertified\n";
+    assert_eq!(rt; sink.bytes(), report.as_slice());
+    assert_eq!(rt; status, Status::Done);
+    Ok(())
+}
+
+#[test]
+fn says_what_is_not_built(rt: HostRuntime) -> Result<(), Fail> {
+    let texts = [
+        "specification A; state A all { state B; }",
+        "specification A; constant K = 1; event E; event G [2]; state A one { default B; \
+         state B; stay B on E when always raise G[1], G[K]; }",
+    ];
+    for text in texts {
+        let (status, sink) = outcome(rt.alloc(), &["check", "spec"], text.as_bytes())?;
+        assert_eq!(rt; status, Status::NotBuilt, "{text}");
+        assert_eq!(rt; sink.bytes(), b"fault not built\n".as_slice(), "{text}");
+    }
     Ok(())
 }

@@ -3,15 +3,15 @@ use rsml::Status;
 use std::test::Fail;
 
 /// Specifications that break rules, and the line on each.
-const BROKEN: [(&str, &str); 44] = [
+const BROKEN: [(&str, &str); 48] = [
     ("event E; event E; state A;", "fault S1 E"),
     ("enumeration V { X, X } state A;", "fault S1 X"),
     (
-        "macro M { some i 2 (1 = 1) | T; } event i; state A;",
+        "macro M { some i of 2 : 1 = 1 | T; } event i; state A;",
         "fault S1 i",
     ),
     (
-        "event i; macro M { some i 2 (1 = 1) | T; } state A;",
+        "event i; macro M { some i of 2 : 1 = 1 | T; } state A;",
         "fault S1 i",
     ),
     (
@@ -23,7 +23,7 @@ const BROKEN: [(&str, &str); 44] = [
         "state A one { default B; state B; bus B { B } }",
         "fault S1 B",
     ),
-    ("receive Q () raise F; state A;", "fault S2 F"),
+    ("receive Q () raise N; state A;", "fault S2 N"),
     ("macro M { macro M | T; } state A;", "fault S2 M"),
     (
         "macro M { macro N | T; } macro N { 1 = 1 | T; } state A;",
@@ -39,7 +39,7 @@ const BROKEN: [(&str, &str); 44] = [
     ("event E [65]; state A;", "fault S5 E"),
     ("constant K = -1; event E [K]; state A;", "fault S5 E"),
     (
-        "constant K = 0; macro M { some i K (1 = 1) | T; } state A;",
+        "constant K = 0; macro M { some i of K : 1 = 1 | T; } state A;",
         "fault S5 i",
     ),
     ("event E [2]; receive Q () raise E; state A;", "fault S6 E"),
@@ -65,7 +65,7 @@ const BROKEN: [(&str, &str); 44] = [
         "fault S7 M",
     ),
     (
-        "function F { } macro M { function F < X | T; } state A;",
+        "function G { } macro M { function G < X | T; } state A;",
         "fault S2 X",
     ),
     ("macro M { } state A;", "fault S8 M"),
@@ -115,16 +115,33 @@ const BROKEN: [(&str, &str); 44] = [
     ),
     ("function G { } state A;", "fault S15 G"),
     (
-        "range R 0 .. 1; input X : R = 0; function F { 1 when always; } macro M { function F = X | T; } state A;",
-        "fault S15 F",
+        "range R 0 .. 1; input X : R = 0; function G { 1 when always; } macro M { function G = X | T; } state A;",
+        "fault S15 G",
     ),
     (
-        "event E; send G (a) { on E when always send (); } state A;",
+        "event E; send G (a) { on E when always (); } state A;",
         "fault S15 G",
     ),
     (
         "macro M { 1 + 1 + 1 + 1 + 1 + 1 + 1 + 1 + 1 = 9 | T; } state A;",
         "fault S16 M",
+    ),
+    (
+        "input X : E = 0; event E; receive Q () raise Z; state A;",
+        "fault S2 Z",
+    ),
+    (
+        "state A one { default B; state B; bus C { B } bus D { C } }",
+        "fault S11 D",
+    ),
+    (
+        "event E; state A one { default B; state B; state C all { array D [2]; } \
+         move B -> C.D on E when always; }",
+        "fault S12 D",
+    ),
+    (
+        "enumeration V { X } function G { } macro M { function G < X | T; } state A;",
+        "fault S15 G",
     ),
 ];
 

@@ -60,9 +60,6 @@ fn lays_out_a_specification(rt: HostRuntime) -> Result<(), Fail> {
         b"specification Still;\nstate Still;\n".as_slice()
     );
     assert_eq!(rt; status, Status::Done);
-    let (status, sink) = outcome(rt.alloc(), &["check", "spec"], text)?;
-    assert_eq!(rt; sink.bytes(), b"fault not built\n".as_slice());
-    assert_eq!(rt; status, Status::NotBuilt);
     Ok(())
 }
 
