@@ -13,8 +13,8 @@ make many_declarations "put(\"specification A; \"); while (size < $most) put(\"e
 make one_name_again "put(\"specification A; \"); while (size < $most) put(\"event E; \"); put(\"state A;\")"
 make values_of_one_type "put(\"specification A; enumeration V { X\"); while (size < $most / 2) put(\", Y\" n++); put(\" } \");
   while (size < $most) put(\"input Z\" m++ \" : V = X; \"); put(\"state A;\")"
-make long_first_case "put(\"specification A; function F { 1\"); while (size < $most / 2) put(\" + 1\"); put(\" when always; } \");
-  put(\"macro M { \"); while (size < $most) put(\"function F = 1 | T; \"); put(\"} state A;\")"
+make long_first_case "put(\"specification A; function G { 1\"); while (size < $most / 2) put(\" + 1\"); put(\" when always; } \");
+  put(\"macro M { \"); while (size < $most) put(\"function G = 1 | T; \"); put(\"} state A;\")"
 make paths_of_a_large_family "put(\"specification A; macro M { \"); while (size < $most / 2) put(\"in A.Z | T; \"); put(\"} state A all { \");
   while (size < $most) put(\"state Y\" n++ \"; \"); put(\"state Z; }\")"
 make deep_paths "put(\"specification A; macro M { \"); while (size < $most / 2) put(\"in A.A.A.A.A.A.A.A.A.Z | T; \"); put(\"} state A all { \");
@@ -28,10 +28,11 @@ make long_raise_list "put(\"specification A; event E; state A one { default Z; s
 make long_receive_list "put(\"specification A; event E; receive Q (X\"); while (size < $most) put(\", X\" n++); put(\") raise E; state A;\")"
 make macro_named_by_all "put(\"specification A; event E; macro M { \"); for (i = 0; i < 64; i++) put(\"1 = 1 | T; \"); put(\"} state A one { default Z; state Z; \");
   while (size < $most) put(\"stay Z on E when { macro M | T; }; \"); put(\"}\")"
-make enormous_ground_machine "put(\"specification A; event E; \"); for (i = 0; i < 5; i++) put(\"state A all { array A\" i \" [64] all { \");
-  while (size < $most) put(\"state Y\" n++ \"; \"); for (i = 0; i < 10; i++) put(\"} \")"
-make many_comparisons "put(\"specification A; range R 0 .. 9; input X : R = 0; function F { \"); while (size < $most / 2) put(\"X when always; \"); put(\"} \");
-  while (size < $most) { put(\"macro M\" n++ \" { \"); for (i = 0; i < 64; i++) put(\"function F = 1 | T; \"); put(\"} \") } put(\"state A;\")"
+make large_family "put(\"specification A; event E; state A all { \"); while (size < $most) put(\"state Y\" n++ \"; \"); put(\"}\")"
+make enormous_ground_machine "put(\"specification A; \"); while (size < $most) { put(\"macro M\" n++ \" [64] { \");
+  for (i = 0; i < 64; i++) put(\"every i of 64 : 1 = 1 | T; \"); put(\"} \") } put(\"state A;\")"
+make many_comparisons "put(\"specification A; range R 0 .. 9; input X : R = 0; function G { \"); while (size < $most / 2) put(\"X when always; \"); put(\"} \");
+  while (size < $most) { put(\"macro M\" n++ \" { \"); for (i = 0; i < 64; i++) put(\"function G = 1 | T; \"); put(\"} \") } put(\"state A;\")"
 
 (cd crates/rules_bench && rt run -- "$work/buses" 1 > /dev/null)
 printf '%-28s %8s %10s %10s %8s\n' text found 'read ms' 'judge ms' ratio
