@@ -15,3 +15,4 @@ mod states;
 mod whole;
 
 pub use over::{Over, lowest_over};
+pub use previous::previous_names;

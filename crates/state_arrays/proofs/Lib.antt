@@ -1,0 +1,12 @@
+pub mod ArrayLemmas
+pub mod CellLemmas
+pub mod Clean
+pub mod Distinct
+pub mod MadeLemmas
+pub mod NumberLemmas
+pub mod PathLemmas
+pub mod RangeLemmas
+pub mod Room
+pub mod Small
+pub mod TreeLemmas
+pub mod WalkLemmas

@@ -1,0 +1,6 @@
+pub mod Arrays
+pub mod Children
+pub mod Made
+pub mod Places
+pub mod Ranges
+pub mod Trees

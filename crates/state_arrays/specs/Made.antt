@@ -1,0 +1,39 @@
+-- The instances that declarations make, one array after another.
+use Rattle.std.specs.Prelude.{◌≡◌, ◌+◌, ◌≤◌, false, List, [], ◌∷◌, ◌++◌, flat_map, length, if◌then◌else◌}
+use Rattle.rsml_syntax.specs.declared.syntax.Spec.{Spec}
+use Rattle.rsml_syntax.specs.declared.syntax.Decl.{Decl}
+use Rattle.rsml_syntax.specs.declared.syntax.Decl.TheVariants as decl
+use Rattle.rsml_syntax.specs.Names.{Name, is_in}
+use Rattle.rsml_syntax.specs.Globals.{Globals, many, name_of, size_of}
+use Rattle.rsml_counts.specs.PreviousNames.{previous_names}
+use Rattle.rsml_meaning.specs.Words.{Instance}
+use Rattle.rsml_meaning.specs.Instances.{State, globals_of, instances, events, states}
+use Rattle.state_arrays.specs.Arrays.{has_name}
+
+-- the inputs that a declaration makes
+abbrev pub inputs_of : Globals → Decl → List Instance
+inputs_of g (decl.Input name size _ _) = instances g name size
+inputs_of g _ = []
+
+-- those whose name is among these
+abbrev pub previous_of : List Name → Globals → Decl → List Instance
+previous_of names g (decl.Input name size _ _) = if is_in name names then instances g name size else []
+previous_of names g _ = []
+
+-- Behind these instances more ones of a declaration may stand: none has its name yet, and there is room.
+pub record Admits (g : Globals) (xs more : List Instance) (d : Decl) : Type 0 where
+  pub new : has_name xs (name_of d) ≡ false
+  pub room : length xs + length more ≤ 1024
+  pub some : 1 ≤ many g (size_of d)
+  pub few : many g (size_of d) ≤ 64
+
+-- what declarations make may be put one behind another
+abbrev pub AreArrays : Globals → (Decl → List Instance) → List Decl → Type 0
+AreArrays g make ds = (before : List Decl) (d : Decl) (after : List Decl) → ds ≡ before ++ (d ∷ after) → Admits g (flat_map make before) (make d) d
+
+-- The instances of a specification: its events, its inputs, the inputs that stand after `previous`, and its states.
+pub record AreNumbered (s : Spec) (event_list input_list previous_list : List Instance) (state_list : List State) : Type 0 where
+  pub are_events : event_list ≡ events s
+  pub are_inputs : input_list ≡ flat_map (inputs_of (globals_of s)) s.decls
+  pub are_previous : previous_list ≡ flat_map (previous_of (previous_names s) (globals_of s)) s.decls
+  pub are_states : state_list ≡ states s

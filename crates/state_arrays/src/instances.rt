@@ -1,0 +1,79 @@
+ghost use Rattle.std.specs.Prelude.{◌≡◌, ◌+◌, ◌<◌, ◌≤◌, [], ◌++◌, IfOk, IfSome, false, length, map};
+ghost use Rattle.rsml_meaning.specs.Words.{at, place_in};
+ghost use Rattle.state_arrays.specs.Arrays.{has_name};
+ghost use Rattle.state_arrays.specs.Ranges.{range};
+
+use crate::array::Array;
+use crate::indices::Indices;
+use indexmap::IndexMap;
+use rsml_syntax::NoMemory;
+use std::alloc::Global;
+use std::marker::Model;
+
+/// Instances in order, those of one name one after another, with the place of each.
+#[derive(Drop)]
+pub struct Instances<'a> {
+    arrays: IndexMap<&'a [u8], Array>,
+    count: u32,
+}
+
+impl<'a> Model for Instances<'a> {
+    ghost use Rattle.std.specs.Prelude.{List};
+    ghost use Rattle.rsml_meaning.specs.Words.{Instance};
+    ghost use Rattle.state_arrays.specs.Arrays.{instances_of, AreFound};
+
+    ghost Value = { List Instance };
+
+    ghost view = { λ n. instances_of n.arrays.entries };
+
+    ghost invariant = { λ n. AreFound n.arrays n.count };
+}
+
+impl<'a> Instances<'a> {
+    /// No instances.
+    pub fn new(alloc: Global) -> Instances<'a>
+        ensures { result ≡ [] }
+    {
+        Instances {
+            arrays: IndexMap::new(alloc),
+            count: 0,
+        }
+    }
+
+    /// How many there are.
+    pub fn count(&self) -> u32
+        ensures is { result ≡ length self.now }
+        ensures few { result ≤ 1024 }
+    {
+        self.count
+    }
+
+    /// The place of the instance of a name at an index.
+    pub fn place(&self, name: &[u8], index: u8) -> Option<u32>
+        ensures at { result ≡ place_in self.now (at name.now index) }
+        ensures few { IfSome result (λ place. place < 1024) }
+    {
+        match self.arrays.get(name) {
+            Some(array) => array.place(index),
+            None => None,
+        }
+    }
+
+    /// These instances, and behind them those of one more name.
+    pub fn with(self, name: &'a [u8], indices: Indices) -> Result<Instances<'a>, NoMemory>
+        requires new { has_name self name.now ≡ false }
+        requires room { length self + length (range indices.low indices.high) ≤ 1024 }
+        ensures { IfOk result (λ r. r ≡ self.entry ++ map (at name.now) (range indices.low indices.high)) }
+    {
+        let Instances { mut arrays, count } = self;
+        let array = Array {
+            first: count,
+            indices,
+        };
+        arrays.insert(name, array)?;
+        Ok(Instances {
+            arrays,
+            count: count + indices.count(),
+        })
+    }
+}

@@ -1,0 +1,111 @@
+ghost use Rattle.std.specs.Prelude.{◌≡◌, IfOk, IfSome, Some};
+ghost use Rattle.std.specs.Option.{option_map};
+ghost use Rattle.rsml_meaning.specs.Words.{at, place_in};
+ghost use Rattle.rsml_meaning.specs.Instances as instances;
+ghost use Rattle.state_arrays.specs.Places.{cell_place, previous_place, path_place, path_at};
+
+use crate::declared::{events, inputs, previous_inputs};
+use crate::instances::Instances;
+use crate::paths::Paths;
+use rsml_counts::previous_names;
+use rsml_names::Globals;
+use rsml_syntax::{Checked, NoMemory, Path, Spec};
+use std::alloc::Global;
+use std::marker::Model;
+
+/// The numbers of the instances of a specification.
+#[derive(Drop)]
+pub struct Names<'a> {
+    spec: &'a Spec,
+    events: Instances<'a>,
+    inputs: Instances<'a>,
+    previous: Instances<'a>,
+    paths: Paths<'a>,
+}
+
+impl<'a> Model for Names<'a> {
+    ghost use Rattle.rsml_syntax.specs.declared.syntax.Spec.{Spec};
+    ghost use Rattle.rsml_syntax.specs.contracts.syntax.Body as bodies;
+    ghost use Rattle.std.specs.Coded.{codes};
+
+    ghost Value = { Spec };
+
+    ghost coded = { Prim.hlevel (codes, bodies.the_row.coded) };
+
+    ghost use Rattle.state_arrays.specs.Made.{AreNumbered};
+
+    ghost view = { λ n. n.spec.now };
+
+    ghost invariant = { λ n. AreNumbered n.spec.now n.events n.inputs n.previous n.paths };
+}
+
+impl<'a> Names<'a> {
+    /// The numbers of the instances of a specification.
+    pub fn build(alloc: Global, checked: &'a Checked) -> Result<Names<'a>, NoMemory>
+        ensures { IfOk result (λ names. names ≡ checked.now) }
+    {
+        let spec = checked.spec();
+        let decls = spec.decls.as_slice();
+        let globals = Globals::of(alloc, decls)?;
+        let after_previous = previous_names(alloc, spec)?;
+        let events = events(alloc, &globals, decls)?;
+        let inputs = inputs(alloc, &globals, decls)?;
+        let previous = previous_inputs(alloc, &globals, &after_previous, decls)?;
+        let paths = Paths::of(alloc, checked)?;
+        Ok(Names {
+            spec,
+            events,
+            inputs,
+            previous,
+            paths,
+        })
+    }
+
+    /// The specification itself.
+    pub fn spec(&self) -> &'a Spec
+        ensures { result.now ≡ self.now }
+    {
+        self.spec
+    }
+
+    /// The place of an event, among the instances of events.
+    pub fn event_of(&self, name: &[u8], index: u8) -> Option<u32>
+        ensures { result ≡ place_in (instances.events self.now) (at name.now index) }
+    {
+        self.events.place(name, index)
+    }
+
+    /// The place of the cell that holds the number of an input, among the cells.
+    pub fn cell_of(&self, name: &[u8], index: u8) -> Option<u32>
+        ensures { result ≡ cell_place self.now (at name.now index) }
+    {
+        self.inputs.place(name, index)
+    }
+
+    /// The place of the cell that holds the previous number of an input, among the cells.
+    pub fn previous_of(&self, name: &[u8], index: u8) -> Option<u32>
+        ensures { result ≡ previous_place self.now (at name.now index) }
+    {
+        let place = self.previous.place(name, index)?;
+        Some(self.inputs.count() + place)
+    }
+
+    /// The number of the state of a path: its place among the state instances.
+    pub fn node_of_path(&self, path: &Path) -> Option<u32>
+        ensures place { result ≡ path_place (instances.states self.now) path.now.steps }
+        ensures path { IfSome result (λ node.
+            path_at (instances.states self.now) node ≡ Some path.now.steps) }
+    {
+        self.paths.node(path)
+    }
+
+    /// The path of the state of a number. None exactly where there are no more states than that.
+    pub fn path_of_node(&self, alloc: Global, node: u32) -> Result<Option<Path>, NoMemory>
+        ensures path { IfOk result (λ path.
+            option_map (λ p. p.steps) path ≡ path_at (instances.states self.now) node) }
+        ensures place { IfOk result (λ path. IfSome path (λ p.
+            path_place (instances.states self.now) p.steps ≡ Some node)) }
+    {
+        self.paths.path(alloc, node)
+    }
+}

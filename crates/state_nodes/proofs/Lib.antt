@@ -1,0 +1,5 @@
+pub mod Clean
+pub mod Depths
+pub mod Fitting
+pub mod Numbering
+pub mod Sized
