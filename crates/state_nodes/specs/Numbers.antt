@@ -63,26 +63,26 @@ pub record Stands (xs : List State) (n : Node) : Type 0 where
   pub parent : IsPlace (paths xs) (path_above n.path) n.parent
   pub component : IsPlace (components_of xs) (component_of n.body n.path) n.component
 
--- nodes whose numbers are right, no more than L1 has them
+-- nodes with right numbers, as many as L1 lets there be
 pub record AreNodes (ns : List Node) : Type 0 where
   pub stand : Each (Stands (map state_of ns)) ns
   pub room : length ns ≤ 4096
 
--- nodes with right numbers, and how many components they are
+-- nodes, and how many components are among them
 pub record AreNumbered (ns : List Node) (components : ℕ) : Type 0 where
   pub nodes : AreNodes ns
   pub count : components ≡ length (components_of (map state_of ns))
 
--- a state of this path has this number, and is not outside all
+-- the state of this number has this path, which has a step
 pub record IsAt (xs : List State) (node : ℕ) (path : Path) : Type 0 where
   pub here : slice_get (paths xs) node ≡ Some path
   pub some : 1 ≤ length path
 
--- S5: no index is past 64
+-- no index is past 64, as S5 has it
 abbrev pub HasIndices : Path → Type 0
 HasIndices path = Each (λ step. step.index ≤ 64) path
 
--- These states have room behind so many.
+-- These states have room behind as many, and their indices fit.
 pub record Fit (count : ℕ) (xs : List State) : Type 0 where
   pub room : count + length xs ≤ 4096
   pub indices : Each (λ x. HasIndices x.path) xs

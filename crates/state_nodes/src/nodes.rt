@@ -3,7 +3,8 @@ ghost use Rattle.std.specs.Option.{option_copied, option_map};
 ghost use Rattle.rsml_syntax.specs.Globals.{indices};
 ghost use Rattle.rsml_meaning.specs.Words.{at, child_path};
 ghost use Rattle.rsml_meaning.specs.Instances.{new_state, subtree, child_states, states};
-ghost use Rattle.state_nodes.specs.Numbers.{IsPlace, IsAt, IsBody, Fit, instance_states, path_above, paths, components_of, path_around, component_at};
+ghost use Rattle.state_nodes.specs.Numbers.{IsPlace, IsAt, IsBody, Fit, instance_states};
+ghost use Rattle.state_nodes.specs.Numbers.{path_above, paths, components_of, path_around, component_at};
 
 use crate::node::{Node, component_after, count_with};
 use crate::step::{Step, below, copied};
@@ -89,8 +90,10 @@ impl<'a> Nodes<'a> {
         children: &'a [StateDecl],
     ) -> Result<Nodes<'a>, NoMemory>
         requires parent { IsAt self parent path.now }
-        requires room { Fit (length self) (flat_map (child_states globals.now path.now) children.now) }
-        ensures { IfOk result (λ n. n ≡ self.entry ++ flat_map (child_states globals.now path.now) children.now) }
+        requires room { Fit (length self)
+            (flat_map (child_states globals.now path.now) children.now) }
+        ensures { IfOk result (λ n. n ≡ self.entry
+            ++ flat_map (child_states globals.now path.now) children.now) }
     {
         let mut nodes = self;
         for child in children {
@@ -131,8 +134,10 @@ impl<'a> Nodes<'a> {
         size: &Amount,
     ) -> Result<Nodes<'a>, NoMemory>
         requires parent { IsAt self parent path.now }
-        requires room { Fit (length self) (instance_states globals.now path.now child.now (indices globals.now (Some size.now))) }
-        ensures { IfOk result (λ n. n ≡ self.entry ++ instance_states globals.now path.now child.now (indices globals.now (Some size.now))) }
+        requires room { Fit (length self)
+            (instance_states globals.now path.now child.now (indices globals.now (Some size.now))) }
+        ensures { IfOk result (λ n. n ≡ self.entry
+            ++ instance_states globals.now path.now child.now (indices globals.now (Some size.now))) }
     {
         let mut nodes = self;
         for before in 0..globals.many(Some(size)) {
@@ -154,8 +159,10 @@ impl<'a> Nodes<'a> {
         index: u8,
     ) -> Result<Nodes<'a>, NoMemory>
         requires parent { IsAt self parent path.now }
-        requires room { Fit (length self) (subtree globals.now child.now.body (child_path path.now (at child.now.name index))) }
-        ensures { IfOk result (λ n. n ≡ self.entry ++ subtree globals.now child.now.body (child_path path.now (at child.now.name index))) }
+        requires room { Fit (length self)
+            (subtree globals.now child.now.body (child_path path.now (at child.now.name index))) }
+        ensures { IfOk result (λ n. n ≡ self.entry
+            ++ subtree globals.now child.now.body (child_path path.now (at child.now.name index))) }
     {
         let path = below(alloc, path, &child.name, index)?;
         self.with(alloc, globals, &path, Some(parent), &child.body)
@@ -210,14 +217,16 @@ impl<'a> Nodes<'a> {
         Some(self.all.get(node as usize)?.body)
     }
 
-    /// The number of the state instance around one. None exactly for the top state, and where there is no such node.
+    /// The number of the state instance around one. None exactly for the top state, and where there
+    /// is no such node.
     pub fn parent(&self, node: u32) -> Option<u32>
         ensures { IsPlace (paths self.now) (path_around self.now node) result }
     {
         self.all.get(node as usize)?.parent
     }
 
-    /// The number of a component. None exactly where the node is no `one` state, and where there is no such node.
+    /// The number of a component. None exactly where the node is no `one` state, and where there is
+    /// no such node.
     pub fn component_of(&self, node: u32) -> Option<u32>
         ensures { IsPlace (components_of self.now) (component_at self.now node) result }
     {

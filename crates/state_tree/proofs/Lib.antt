@@ -1,0 +1,10 @@
+pub mod ActiveStep
+pub mod Entry
+pub mod Fitting
+pub mod Goods
+pub mod Kin
+pub mod Lists
+pub mod Prefixes
+pub mod Spans
+pub mod Spread
+pub mod Walks
