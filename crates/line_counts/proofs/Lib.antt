@@ -1,0 +1,10 @@
+pub mod CrossingLemmas
+pub mod EntryLemmas
+pub mod GroupLemmas
+pub mod Grouping
+pub mod KindLemmas
+pub mod MeetingLemmas
+pub mod OnceLemmas
+pub mod PairLemmas
+pub mod Sums
+pub mod UnionLemmas

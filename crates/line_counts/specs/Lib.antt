@@ -1,0 +1,5 @@
+pub mod Crossings
+pub mod Grouped
+pub mod Joined
+pub mod Kinds
+pub mod Lines
