@@ -1,11 +1,7 @@
-pub mod AnsweredLemmas
+pub mod AskLemmas
 pub mod CountLemmas
-pub mod DistinctLemmas
-pub mod EqualityLemmas
-pub mod EquivalenceLemmas
-pub mod Gathering
-pub mod InsertLemmas
-pub mod QuestionLemmas
-pub mod SumLemmas
-pub mod Walking
-pub mod Written
+pub mod FunctionLemmas
+pub mod InnerLemmas
+pub mod MemberLemmas
+pub mod PairLemmas
+pub mod TableLemmas

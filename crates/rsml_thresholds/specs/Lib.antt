@@ -1,4 +1,5 @@
-pub mod Asked
-pub mod Gathered
-pub mod Searched
+pub mod Compared
+pub mod Edges
+pub mod Pairs
 pub mod Shown
+pub mod Tabled

@@ -1,22 +1,17 @@
-//! The thresholds and the keys that the comparisons of a specification have, and how many there are.
+//! How many thresholds and keys the comparisons of a specification have.
 #![tactic(auto)]
 
-mod atom;
-mod cell;
+mod cells;
+mod compared;
 mod counting;
-mod declarations;
-mod ends;
-mod found;
-mod key;
-mod name;
-mod order;
-mod phrases;
-mod question;
-mod reading;
-mod search;
-mod states;
-mod sums;
-mod term;
-mod threshold;
+mod edge;
+mod function;
+mod functions;
+mod lines;
+mod numbers;
+mod ranges;
+mod right;
+mod table;
+mod thresholds;
 
 pub use counting::thresholds_and_keys;

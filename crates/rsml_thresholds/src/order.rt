@@ -1,7 +1,0 @@
-/// The relation of a key.
-#[derive(Clone, Copy, PartialEq, Eq, Hash)]
-pub enum Order {
-    Equal,
-    Less,
-    LessEqual,
-}
