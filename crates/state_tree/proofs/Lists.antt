@@ -1,6 +1,6 @@
 -- Words on lists.
-use Rattle.std.proofs.Common.{◌≡◌, ℕ, zero, suc, ◌+◌, ◌<◌, Bool, true, false, ◌&&◌, List, [], ◌∷◌, ◌++◌, map, length, zip, Option, Some, inl, inr, refl, sym, ap, ◌∙◌, subst, slice_get, get_or, drop, cond, unwrap_or, add-one, arith}
-use Rattle.std.specs.List.{list_all, AllZip, position_from}
+use Rattle.std.proofs.Common.{◌≡◌, ℕ, zero, suc, ◌+◌, ◌<◌, Bool, true, false, ◌&&◌, List, [], ◌∷◌, ◌++◌, map, length, zip, Some, inl, inr, refl, sym, ap, ◌∙◌, subst, slice_get, get_or, drop, add-one, arith}
+use Rattle.std.specs.List.{list_all, AllZip}
 use Rattle.std.proofs.lemmas.Option.{same_Some}
 use Rattle.rsml_meaning.specs.Words.{IsOne}
 

@@ -11,7 +11,7 @@ use Rattle.rsml_meaning.specs.Words.{Path, at, child_path, is_prefix}
 use Rattle.rsml_meaning.specs.Instances.{State, states}
 use Rattle.std.proofs.lemmas.List.{length-map}
 use Rattle.state_nodes.specs.Numbers.{paths}
-use Rattle.state_tree.specs.Tables.{IsEnd, HasChildNamed, IsChildNamed}
+use Rattle.state_tree.specs.Tables.{IsEnd, HasChildNamed}
 use Rattle.state_tree.proofs.Lists.{get_within}
 use Rattle.state_tree.proofs.Prefixes.{prefix_self, prefix_append, prefix_rest, longer}
 use Rattle.state_tree.proofs.Spread.{end_is, get_parts}

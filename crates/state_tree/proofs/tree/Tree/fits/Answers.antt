@@ -1,4 +1,4 @@
-use Rattle.std.proofs.Common.{◌≡◌, ◌<◌, ◌≤◌, length, get_or, arith, sym, ap, ◌∙◌, ℕ}
+use Rattle.std.proofs.Common.{length, get_or, arith, ◌∙◌}
 use Rattle.rsml_meaning.specs.Instances.{components}
 use Rattle.rsml_meaning.specs.Worlds.{is_choice}
 use Rattle.state_tree.proofs.Fitting.{asked_no, asked_yes, from_item, from_number, not_below, is_below}
