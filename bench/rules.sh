@@ -7,7 +7,7 @@ work=$(mktemp -d)
 trap 'rm -rf "$work"' EXIT
 
 # Texts, each by an awk program that ends once it has written about a million bytes.
-make() { awk "function put(s) { printf \"%s\", s; size += length(s) } BEGIN { $2 }" > "$work/$1"; }
+make() { awk "function put(s) { printf \"%s\", s; size += length(s) } BEGIN { n = 0; m = 0; k = 0; $2 }" > "$work/$1"; }
 most=1000000
 make many_declarations "put(\"specification A; \"); while (size < $most) put(\"event E\" n++ \"; \"); put(\"state A;\")"
 make one_name_again "put(\"specification A; \"); while (size < $most) put(\"event E; \"); put(\"state A;\")"
@@ -34,21 +34,25 @@ make enormous_ground_machine "put(\"specification A; \"); while (size < $most) {
 make many_comparisons "put(\"specification A; range R 0 .. 9; input X : R = 0; function G { \"); while (size < $most / 2) put(\"X when always; \"); put(\"} \");
   while (size < $most) { put(\"macro M\" n++ \" { \"); for (i = 0; i < 64; i++) put(\"function G = 1 | T; \"); put(\"} \") } put(\"state A;\")"
 
-make sums_by_sums "put(\"specification A; range R 0 .. 9; input X : R = 0; input Y : R = 0; function G { \"); while (size < $most / 2) put(\"X - \" n++ \" when always; \"); put(\"} \");
-  while (size < $most) { put(\"macro M\" m++ \" { \"); for (i = 0; i < 64; i++) put(\"function G < Y - \" k++ \" | T; \"); put(\"} \") } put(\"state A;\")"
-make sums_both_ways "put(\"specification A; range R 0 .. 9; input X : R = 0; input Y : R = 0; function G { \"); while (size < $most / 2) put(\"X - \" n++ \" when always; \"); put(\"} \");
-  while (size < $most) { put(\"macro M\" m++ \" { \"); for (i = 0; i < 64; i += 2) put(\"function G < X - \" k \" | T; function G > X - \" k++ \" | T; \"); put(\"} \") } put(\"state A;\")"
-make sums_of_two_functions "put(\"specification A; range R 0 .. 9; input X : R = 0; input Y : R = 0; function G { \"); while (size < $most / 4) put(\"X - \" n++ \" when always; \"); put(\"} function H { \");
+make sums_by_constants "put(\"specification A; range R 0 .. 9; input X : R = 0; function G { \"); while (size < $most / 2) put(\"X - \" n++ \" when always; \"); put(\"} \");
+  while (size < $most) { put(\"macro M\" m++ \" { \"); for (i = 0; i < 64; i++) put(\"function G < \" k++ \" | T; \"); put(\"} \") } put(\"state A;\")"
+make sums_of_two_functions "put(\"specification A; range R 0 .. 9; input X : R = 0; function G { \"); while (size < $most / 4) put(\"X - \" n++ \" when always; \"); put(\"} function H { \");
   while (size < $most / 2) put(\"X - \" n++ \" when always; \"); put(\"} \");
-  while (size < $most) { put(\"macro M\" m++ \" { \"); for (i = 0; i < 64; i += 2) put(\"function G < Y - \" k \" | T; function H < Y - \" k++ \" | T; \"); put(\"} \") } put(\"state A;\")"
+  while (size < $most) { put(\"macro M\" m++ \" { \"); for (i = 0; i < 64; i += 2) { put(\"function G < \" k \" | T; \"); put(\"function H < \" k++ \" | T; \") } put(\"} \") } put(\"state A;\")"
+make sums_and_one_more "put(\"specification A; range R 0 .. 9; input X : R = 0; function G { \"); while (size < $most / 2) put(\"X - \" n++ \" when always; \"); put(\"} \");
+  while (size < $most) { put(\"macro M\" m++ \" { \"); for (i = 0; i < 64; i += 2) { put(\"function G < \" k \" | T; \"); put(\"X + \" k \" < \" k++ \" | T; \") } put(\"} \") } put(\"state A;\")"
 make cells_by_constants "put(\"specification A; range R 0 .. 1000000; \"); for (i = 0; i < 1000; i++) put(\"input X\" i \" : R = 0; \"); put(\"function G { \");
   for (i = 0; i < 1000; i++) put(\"X\" i \" when always; \"); put(\"} \");
   while (size < $most) { put(\"macro M\" m++ \" { \"); for (i = 0; i < 64; i++) put(\"function G < \" k++ \" | T; \"); put(\"} \") } put(\"state A;\")"
-make constants_by_cells "put(\"specification A; range R 0 .. 1000000; \"); for (i = 0; i < 1000; i++) put(\"input X\" i \" : R = 0; \"); put(\"function G { \");
-  while (size < $most * 9 / 10) put(n++ \" when always; \"); put(\"} \");
-  while (k < 1000) { put(\"macro M\" m++ \" { \"); for (i = 0; i < 64; i++) put(\"function G < X\" k++ % 1000 \" | T; \"); put(\"} \") } put(\"state A;\")"
-make function_of_many_indices "put(\"specification A; range R 0 .. 9; input X [64] : R = 0; input Y : R = 0; function G [64] { \"); while (size < $most / 2) put(\"X[this] - \" n++ \" when always; \"); put(\"} \");
-  while (size < $most) { put(\"macro M\" m++ \" { \"); for (i = 0; i < 64; i++) put(\"function G[\" i + 1 \"] < Y - \" k++ \" | T; \"); put(\"} \") } put(\"state A;\")"
+make cells_and_one_more "put(\"specification A; range R 0 .. 1000000; \"); for (i = 0; i < 1000; i++) put(\"input X\" i \" : R = 0; \"); put(\"function G { \");
+  for (i = 0; i < 1000; i++) put(\"X\" i \" when always; \"); put(\"} macro L { \"); for (i = 0; i < 64; i++) put(\"X\" i \" < \" 500000 + i \" | T; \"); put(\"} \");
+  for (k = 0; k < 900; k += 60) { put(\"macro N\" k \" { \"); for (i = 0; i < 60; i++) put(\"X\" 64 + k + i \" < \" 600000 + k + i \" | T; \"); put(\"} \") }
+  while (size < $most) { put(\"macro M\" m++ \" { \"); for (i = 0; i < 64; i++) put(\"function G < \" k++ \" | T; \"); put(\"} \") } put(\"state A;\")"
+make sums_by_sums "put(\"specification A; range R 0 .. 9; input X : R = 0; input Y : R = 0; \");
+  while (size < $most) { put(\"macro M\" m++ \" { \"); for (i = 0; i < 64; i++) { put(\"X - \" k \" < Y - \" k++ \" | T; \") } put(\"} \") } put(\"state A;\")"
+make function_of_many_indices "put(\"specification A; range R 0 .. 9; input X [64] : R = 0; function G [64] { \"); while (size < $most / 2) put(\"X[this] - \" n++ \" when always; \"); put(\"} \");
+  while (size < $most) { put(\"macro M\" m++ \" { \"); for (i = 0; i < 64; i++) put(\"function G[\" i + 1 \"] < \" k++ \" | T; \"); put(\"} \") } put(\"state A;\")"
+
 (cd crates/rules_bench && rt run -- "$work/buses" 1 > /dev/null)
 printf '%-28s %8s %10s %10s %8s\n' text found 'read ms' 'judge ms' ratio
 for text in "$work"/*; do

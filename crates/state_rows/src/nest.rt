@@ -1,14 +1,14 @@
 use crate::tree_tables::{TreeTable, tree_lines};
 use std::test::Fail;
 
-/// Components in a component.
+/// Components in a component. Two states in different ones have one name.
 const NEST: &str = "\
 specification Nest; event Go; event Reset; event Jump;\n\
 receive Push () raise Go; receive Clear () raise Reset; receive Leap () raise Jump;\n\
 state Top one { default A;\n\
   state A one { default X; state X; state Y;\n\
     move X -> Y on Go when always; stay Y on Go when always; }\n\
-  state B one { default V; state U; state V; }\n\
+  state B one { default C; state U; state C; }\n\
   state C;\n\
   move A -> A on Reset when always;\n\
   move A -> A.Y on Jump when always; }\n\
