@@ -1,10 +1,11 @@
-pub mod CrossingLemmas
+pub mod BitLemmas
+pub mod CountLemmas
 pub mod EntryLemmas
 pub mod GroupLemmas
 pub mod Grouping
-pub mod KindLemmas
-pub mod MeetingLemmas
+pub mod InverseLemmas
 pub mod OnceLemmas
+pub mod OutsideLemmas
 pub mod PairLemmas
+pub mod SetLemmas
 pub mod Sums
-pub mod UnionLemmas

@@ -1,23 +1,21 @@
--- The pairs of rows, and those of columns that no row has, by the kinds of fixed numbers.
-use Rattle.std.proofs.Common.{◌≡◌, ℕ, ◌+◌, ◌==◌, Bool, true, false, not, ◌&&◌, ◌||◌, nat_eq, List, [], ◌∷◌, ◌++◌, map, filter, length, Option, Some, None, refl, sym, ap, subst, ◌∙◌}
-use Rattle.std.specs.Prelude.{flat_map}
+-- The pairs of rows, and those of columns that no row has, by their groups.
+use Rattle.std.proofs.Common.{◌≡◌, ℕ, ◌+◌, ◌<◌, ◌≤◌, ◌==◌, Bool, true, false, not, ◌&&◌, ◌||◌, nat_eq, List, [], ◌∷◌, ◌++◌, map, filter, flat_map, length, refl, sym, ap, ◌∙◌, ⊎_elim, true≢false}
 use Rattle.std.specs.Cmp.{IsEquivalence, and_equiv, on_equiv, nat_eq_equiv}
 use Rattle.std.specs.List.{list_any, IsDistinct}
-use Rattle.std.specs.Map.{lookup, keys_of}
-use Rattle.std.specs.Option.{option_map, unwrap_or}
+use Rattle.std.proofs.lemmas.Bool.{cases_lt}
 use Rattle.std.proofs.lemmas.List.Folds.{list_any-append}
-use Rattle.std.proofs.lemmas.Map.Made.{lookup-map_values, keys_of-map_values}
+use Rattle.std.proofs.lemmas.Bool.{eqb-true}
 use Rattle.rsml_syntax.specs.Limits.{adds, distinct}
 use Rattle.line_counts.specs.declared.lines.Line.{Line}
 use Rattle.line_counts.specs.Grouped.{places_of, places_at}
-use Rattle.line_counts.specs.Kinds.{Kinds, AreKinds, kind_of, numbers_of, many_pairs}
 use Rattle.line_counts.specs.Lines.{list_at, row, column, pairs, same_pair}
-use Rattle.line_counts.proofs.Grouping.{adds_same, many_alike, many_beside}
+use Rattle.line_counts.specs.Sets.{is_among}
+use Rattle.line_counts.proofs.Grouping.{many_alike, many_beside}
 use Rattle.line_counts.proofs.GroupLemmas.{any_of_lines, many_in_groups, many_passing}
-use Rattle.line_counts.proofs.OnceLemmas.{many_members, many_all_members}
-use Rattle.line_counts.proofs.Sums.{adds_map}
+use Rattle.line_counts.proofs.InverseLemmas.{list_past}
+use Rattle.line_counts.proofs.OnceLemmas.{there, any_flat}
 
-pub pair_equiv : IsEquivalence same_pair
+pair_equiv : IsEquivalence same_pair
 pair_equiv = and_equiv (on_equiv (λ (p : ℕ × ℕ). p.0) nat_eq_equiv) (on_equiv (λ (p : ℕ × ℕ). p.1) nat_eq_equiv)
 
 or_either : (a b : Bool) → (a || b) ≡ (b || a)
@@ -32,60 +30,71 @@ and_either true false = refl
 and_either false true = refl
 and_either false false = refl
 
--- KINDS AS GROUPS: each fixed number with the places of its lists
+-- A NUMBER THAT TWO LISTS HAVE
 
--- each fixed number with the places of its lists
-abbrev groups : Kinds → List (ℕ × List ℕ)
-groups kinds = map (λ e. (e.0, list_at kinds.places e.1)) kinds.numbers
+both_ways : (a b : Bool) → (a ≡ true → b ≡ true) → (b ≡ true → a ≡ true) → a ≡ b
+both_ways true b h k = sym (h refl)
+both_ways false true h k = k refl
+both_ways false false h k = refl
 
-module _ (lines : List Line) (kinds : Kinds) (are : AreKinds lines kinds) where
-  groups_differ : IsDistinct nat_eq (map (λ g. g.0) (groups kinds))
-  groups_differ = subst (IsDistinct nat_eq) (sym (keys_of-map_values (list_at kinds.places) kinds.numbers)) are.differ
+found : (test : ℕ → Bool) (xs : List ℕ) → list_any test xs ≡ true → (x : ℕ) × (is_among nat_eq xs x ≡ true) × (test x ≡ true)
+found test [] h = absurd (true≢false (sym h))
+found test (x ∷ xs) h = by (test x) refl h (found test xs)
+  where
+    or_true : (b : Bool) → (b || true) ≡ true
+    or_true true = refl
+    or_true false = refl
 
-  groups_places : (n : ℕ) → places_at (groups kinds) n ≡ places_of lines n
-  groups_places n = ap (λ o. unwrap_or o []) (lookup-map_values (list_at kinds.places) (nat_eq n) kinds.numbers) ∙ by (kind_of kinds n) refl
-    where
-      by : (o : Option ℕ) → kind_of kinds n ≡ o → unwrap_or (option_map (list_at kinds.places) o) [] ≡ places_of lines n
-      by (Some k) is = ap (λ o. unwrap_or o []) (are.places n k is)
-      by None is = sym (are.none n is)
+    by : (b : Bool) → test x ≡ b → (b || list_any test xs) ≡ true → (list_any test xs ≡ true → (y : ℕ) × (is_among nat_eq xs y ≡ true) × (test y ≡ true)) →
+        (y : ℕ) × (is_among nat_eq (x ∷ xs) y ≡ true) × (test y ≡ true)
+    by true e k rest = (x, ap (λ b. b || is_among nat_eq xs x) (nat_eq_equiv.refl x), e)
+    by false e k rest = let r = rest k in (r.0, ap (λ b. nat_eq r.0 x || b) r.1 ∙ or_true (nat_eq r.0 x), r.2)
 
-module _ (lists : List (List ℕ)) (cs rs : List Line) (columns rows : Kinds) (of_columns : AreKinds cs columns) (of_rows : AreKinds rs rows) where
+-- one that is in both is found from either side
+meet : (s t : ℕ → Bool) (xs ys : List ℕ) → ((p : ℕ) → is_among nat_eq xs p ≡ t p) → ((p : ℕ) → t p ≡ true → is_among nat_eq ys p ≡ s p) → list_any s xs ≡ list_any t ys
+meet s t xs ys of_xs of_ys = both_ways (list_any s xs) (list_any t ys) from_xs from_ys
+  where
+    from_xs : list_any s xs ≡ true → list_any t ys ≡ true
+    from_xs h = let r = found s xs h in let passes = sym (of_xs r.0) ∙ r.1 in there nat_eq t (λ a b e. ap t (eqb-true a b e)) ys r.0 (of_ys r.0 passes ∙ r.2) passes
+
+    from_ys : list_any t ys ≡ true → list_any s xs ≡ true
+    from_ys h = let r = found t ys h in there nat_eq s (λ a b e. ap s (eqb-true a b e)) xs r.0 (of_xs r.0 ∙ r.2) (sym (of_ys r.0 r.2) ∙ r.1)
+
+-- COLUMNS AND ROWS BY THEIR GROUPS
+
+module _ (lists : List (List ℕ)) (cs rs : List Line) (columns rows : List (ℕ × List ℕ))
+    (columns_differ : IsDistinct nat_eq (map (λ g. g.0) columns)) (columns_have : (n : ℕ) → places_at columns n ≡ places_of cs n)
+    (rows_differ : IsDistinct nat_eq (map (λ g. g.0) rows)) (rows_have : (n : ℕ) → places_at rows n ≡ places_of rs n) where
   -- whether rows have a pair
-  abbrev pub in_rows : ℕ × ℕ → Bool
+  abbrev in_rows : ℕ × ℕ → Bool
   in_rows p = list_any (same_pair p) (flat_map (row lists) rs)
 
   -- by the lists of its first number
-  pub in_rows_is : (r n : ℕ) → in_rows (r, n) ≡ list_any (nat_eq n) (flat_map (list_at lists) (places_of rs r))
-  in_rows_is r n =
-      any_of_lines nat_eq same_pair (λ a b. (a, b)) (λ a c b d. refl) (λ p. p.0) (λ p. p.1) (λ q. refl) (λ a place. list_at lists place) rs (groups rows)
-      (groups_differ rs rows of_rows) (groups_places rs rows of_rows) r n
-      ∙ ap (λ ps. list_any (nat_eq n) (flat_map (list_at lists) ps)) (groups_places rs rows of_rows r)
+  in_rows_is : (n c : ℕ) → in_rows (n, c) ≡ is_among nat_eq (flat_map (list_at lists) (places_of rs n)) c
+  in_rows_is n c =
+      any_of_lines nat_eq same_pair (λ a b. (a, b)) (λ a c b d. refl) (λ p. p.0) (λ p. p.1) (λ q. refl) (λ a place. list_at lists place) rs rows rows_differ rows_have n c
+      ∙ ap (λ ps. is_among nat_eq (flat_map (list_at lists) ps) c) (rows_have n)
 
   -- the pairs of rows
-  pub many_of_rows : length (distinct same_pair (flat_map (row lists) rs)) ≡ many_pairs lists rows
-  many_of_rows =
-      many_in_groups nat_eq same_pair (λ a b. (a, b)) (λ a c b d. refl) (λ p. p.0) (λ p. p.1) (λ q. refl) (λ a place. list_at lists place) rs (groups rows)
-      (groups_differ rs rows of_rows) (groups_places rs rows of_rows) pair_equiv
-      ∙ adds_map (λ (g : ℕ × List ℕ). length (distinct nat_eq (flat_map (list_at lists) g.1))) (λ (e : ℕ × ℕ). (e.0, list_at rows.places e.1)) rows.numbers
-      ∙ adds_same (λ (e : ℕ × ℕ). length (distinct nat_eq (flat_map (list_at lists) (list_at rows.places e.1)))) (λ (e : ℕ × ℕ). length (numbers_of lists rows e.1))
-      (λ e. many_all_members lists (list_at rows.places e.1)) rows.numbers
+  abbrev many_of_rows : ℕ
+  many_of_rows = adds (λ g. length (distinct nat_eq (flat_map (list_at lists) g.1))) rows
+
+  rows_counted : length (distinct same_pair (flat_map (row lists) rs)) ≡ many_of_rows
+  rows_counted =
+      many_in_groups nat_eq same_pair (λ a b. (a, b)) (λ a c b d. refl) (λ p. p.0) (λ p. p.1) (λ q. refl) (λ a place. list_at lists place) rs rows rows_differ rows_have pair_equiv
 
   -- those of columns that are no pairs of rows
-  abbrev pub many_columns : ℕ
-  many_columns = adds (λ e. length (filter (λ r. not (in_rows (r, e.0))) (numbers_of lists columns e.1))) columns.numbers
-
-  many_of_columns : length (distinct same_pair (filter (λ p. not (in_rows p)) (flat_map (column lists) cs))) ≡ many_columns
-  many_of_columns =
-      many_passing nat_eq same_pair (λ a b. (b, a)) (λ a c b d. and_either (b == d) (a == c)) (λ p. p.1) (λ p. p.0) (λ q. refl) (λ a place. list_at lists place) cs (groups columns)
-      (groups_differ cs columns of_columns) (groups_places cs columns of_columns) pair_equiv (λ p. not (in_rows p))
-      ∙ adds_map (λ (g : ℕ × List ℕ). length (distinct nat_eq (filter (λ r. not (in_rows (r, g.0))) (flat_map (list_at lists) g.1)))) (λ (e : ℕ × ℕ). (e.0, list_at columns.places e.1)) columns.numbers
-      ∙ adds_same (λ (e : ℕ × ℕ). length (distinct nat_eq (filter (λ r. not (in_rows (r, e.0))) (flat_map (list_at lists) (list_at columns.places e.1)))))
-      (λ (e : ℕ × ℕ). length (filter (λ r. not (in_rows (r, e.0))) (numbers_of lists columns e.1)))
-      (λ e. many_members (λ r. not (in_rows (r, e.0))) lists (list_at columns.places e.1)) columns.numbers
+  columns_counted :
+      length (distinct same_pair (filter (λ p. not (in_rows p)) (flat_map (column lists) cs)))
+      ≡ adds (λ g. length (distinct nat_eq (filter (λ n. not (in_rows (n, g.0))) (flat_map (list_at lists) g.1)))) columns
+  columns_counted =
+      many_passing nat_eq same_pair (λ a b. (b, a)) (λ a c b d. and_either (b == d) (a == c)) (λ p. p.1) (λ p. p.0) (λ q. refl) (λ a place. list_at lists place) cs columns
+      columns_differ columns_have pair_equiv (λ p. not (in_rows p))
 
   -- all pairs
-  pub many_together : length (distinct same_pair (pairs lists cs rs)) ≡ many_pairs lists rows + many_columns
-  many_together =
+  together :
+      length (distinct same_pair (pairs lists cs rs)) ≡ many_of_rows + adds (λ g. length (distinct nat_eq (filter (λ n. not (in_rows (n, g.0))) (flat_map (list_at lists) g.1)))) columns
+  together =
       let of_cs = flat_map (column lists) cs in
       let of_rs = flat_map (row lists) rs in
       many_alike same_pair pair_equiv (of_cs ++ of_rs) (of_rs ++ of_cs)
@@ -94,4 +103,29 @@ module _ (lists : List (List ℕ)) (cs rs : List Line) (columns rows : Kinds) (o
       ∙ or_either (list_any (same_pair q) of_cs) (list_any (same_pair q) of_rs)
       ∙ sym (list_any-append (same_pair q) of_rs of_cs))
       ∙ many_beside same_pair pair_equiv of_rs of_cs
-      ∙ (λ i. many_of_rows i + many_of_columns i)
+      ∙ (λ i. rows_counted i + columns_counted i)
+
+  module _ (named : List (List ℕ)) (lists_with : List (ℕ × List ℕ))
+      (named_are : (place n : ℕ) → place < length lists → is_among nat_eq (list_at named place) n ≡ is_among nat_eq (places_of rs n) place)
+      (with_are : (c place : ℕ) → is_among nat_eq (places_at lists_with c) place ≡ is_among nat_eq (list_at lists place) c) where
+    -- a row has a pair just where it names a list with the second number
+    named_is : (n c : ℕ) → is_among nat_eq (flat_map (list_at named) (places_at lists_with c)) n ≡ in_rows (n, c)
+    named_is n c =
+        any_flat (nat_eq n) (list_at named) (places_at lists_with c)
+        ∙ meet (λ p. is_among nat_eq (list_at named p) n) (λ p. is_among nat_eq (list_at lists p) c) (places_at lists_with c) (places_of rs n) (with_are c) named_by
+        ∙ sym (any_flat (nat_eq c) (list_at lists) (places_of rs n))
+        ∙ sym (in_rows_is n c)
+      where
+        named_by : (p : ℕ) → is_among nat_eq (list_at lists p) c ≡ true → is_among nat_eq (places_of rs n) p ≡ is_among nat_eq (list_at named p) n
+        named_by p h = ⊎_elim
+            (λ (l : p < length lists). sym (named_are p n l))
+            (λ (l : length lists ≤ p). absurd (true≢false (sym h ∙ ap (λ ns. is_among nat_eq ns c) (list_past lists p l))))
+            (cases_lt p (length lists))
+
+    -- all pairs, by what was counted of the groups
+    pub pairs_counted :
+        many_of_rows + adds (λ g. length (distinct nat_eq (filter (λ n. not (is_among nat_eq (flat_map (list_at named) (places_at lists_with g.0)) n)) (flat_map (list_at lists) g.1)))) columns
+        ≡ length (distinct same_pair (pairs lists cs rs))
+    pairs_counted =
+        (λ i. many_of_rows + adds (λ g. length (distinct nat_eq (filter (λ n. not (named_is n g.0 i)) (flat_map (list_at lists) g.1)))) columns)
+        ∙ sym together

@@ -1,5 +1,7 @@
-pub mod Crossings
+pub mod AreSets
+pub mod Bits
 pub mod Grouped
-pub mod Joined
-pub mod Kinds
+pub mod Has
 pub mod Lines
+pub mod Outside
+pub mod Sets

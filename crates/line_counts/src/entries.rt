@@ -1,13 +1,14 @@
-ghost use Rattle.std.specs.Prelude.{◌≡◌, ◌&&◌, IfOk, length, map, flat_map, filter, int_lt, int_le};
+ghost use Rattle.std.specs.Prelude.{◌≡◌, IfOk, OnOk, length, map, flat_map, filter, nat_eq};
+ghost use Rattle.std.specs.List.{IsDistinct};
 ghost use Rattle.std.specs.Ordering.{int_eq};
-ghost use Rattle.rsml_syntax.specs.Limits.{distinct, shown};
-ghost use Rattle.line_counts.specs.Joined.{joined};
+ghost use Rattle.rsml_syntax.specs.Limits.{adds, distinct, shown};
 ghost use Rattle.line_counts.specs.Lines.{entries, same_entry, is_within};
+ghost use Rattle.line_counts.specs.Sets.{joined_at, IsWhole};
 
 use crate::groups::Groups;
 use crate::lines::{Line, Range};
-use crate::unions::Unions;
-use indexmap::IndexSet;
+use crate::outside::Outside;
+use crate::sets::{Sets, numbers};
 use rsml_syntax::NoMemory;
 use std::alloc::Global;
 
@@ -22,46 +23,54 @@ pub fn count_entries(
     ensures { IfOk result (λ count. count ≡ shown (length (distinct same_entry
         (flat_map (entries ranges.now (map (λ l. l.items) lists.now)) lines.now)))) }
 {
+    let numbers = numbers(alloc, lists)?;
+    let sets = Sets::of(alloc, &numbers, lists)?;
+    let mut outside = Outside::new(alloc, &numbers);
     let groups = Groups::of(alloc, lines)?;
-    let mut unions = Unions::new(alloc, lists);
-    let mut count: u64 = 0;
+    count_groups(alloc, ranges, &sets, &mut outside, &groups)
+}
+
+// How many entries groups of lines have.
+fn count_groups(
+    alloc: Global,
+    ranges: &[Range],
+    sets: &Sets<'_, i128>,
+    outside: &mut Outside<'_>,
+    groups: &Groups,
+) -> Result<u64, NoMemory>
+    requires whole { IsWhole int_eq sets.now }
+    requires same { outside.old ≡ sets.now.numbers }
+    ensures count { IfOk result (λ count. count ≡ shown (adds (λ g. length (distinct int_eq
+        (filter (is_within ranges.now g.0) (joined_at sets.now g.1)))) groups.now)) }
+    ensures differ { OnOk result (IsDistinct nat_eq (map (λ g. g.0) groups.now)) }
+{
+    let mut sum = 0u64;
     for (fixed, places) in groups.iter() {
-        let more = count_group(alloc, ranges, &mut unions, *fixed, places.as_slice())?;
-        count = count.saturating_add(more);
+        sum = sum.saturating_add(count_group(alloc, ranges, sets, outside, *fixed, places)?);
     }
-    Ok(count)
+    Ok(sum)
 }
 
 // How many entries a number has with the lists at these places.
 fn count_group(
     alloc: Global,
     ranges: &[Range],
-    unions: &mut Unions<'_, i128>,
+    sets: &Sets<'_, i128>,
+    outside: &mut Outside<'_>,
     fixed: u32,
     places: &[u32],
 ) -> Result<u64, NoMemory>
-    ensures count { IfOk result (λ count. count ≡ length (distinct int_eq
-        (filter (is_within ranges.now fixed) (joined unions.old.lists places.now)))) }
-    ensures lists { IfOk result (λ count. unions.new.lists ≡ unions.old.lists) }
+    requires whole { IsWhole int_eq sets.now }
+    requires same { outside.old ≡ sets.now.numbers }
+    ensures count { IfOk result (λ count. count ≡ shown (length (distinct int_eq
+        (filter (is_within ranges.now fixed) (joined_at sets.now places.now))))) }
+    ensures same { outside.new ≡ outside.old }
 {
-    unions.put(alloc, places)?;
-    Ok(count_within(ranges, fixed, unions.get(places)))
-}
-
-// How many numbers are within the range at a place.
-fn count_within(ranges: &[Range], place: u32, numbers: &IndexSet<i128>) -> u64
-    ensures { result ≡ length (filter (is_within ranges.now place) numbers.now.keys) }
-{
-    match ranges.get(place as usize) {
-        Some(range) => count_in(*range, numbers),
-        None => 0,
+    match ranges.get(fixed as usize) {
+        Some(range) => {
+            let own = sets.union(alloc, places)?;
+            outside.count_within(alloc, &own, *range)
+        }
+        None => Ok(0),
     }
-}
-
-// How many numbers are within a range.
-fn count_in(range: Range, numbers: &IndexSet<i128>) -> u64
-    ensures { result ≡ length (filter (λ n. int_lt range.low n && int_le n range.high)
-        numbers.now.keys) }
-{
-    numbers.iter().filter(|number| range.has(**number)).count() as u64
 }

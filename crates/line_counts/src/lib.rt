@@ -1,15 +1,15 @@
 //! How many pairs lines of numbers have together, counted without writing the pairs down.
 #![tactic(auto)]
 
-mod crossings;
+mod bits;
 mod entries;
 mod groups;
-mod kinds;
+mod inverse;
 mod lines;
-mod members;
+mod outside;
 mod pairs;
-mod reach;
-mod unions;
+mod set;
+mod sets;
 
 pub use entries::count_entries;
 pub use lines::{Line, Range};

@@ -8,7 +8,7 @@ pub struct Line {
 }
 
 /// The numbers above `low` and at most `high`.
-#[derive(Clone, Copy)]
+#[derive(Clone, Copy, PartialEq, Eq, Hash)]
 pub struct Range {
     pub low: i128,
     pub high: i128,

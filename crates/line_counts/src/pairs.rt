@@ -1,18 +1,15 @@
-ghost use Rattle.std.specs.Prelude.{◌≡◌, ◌-◌, ℕ, IfOk, length, map, nat_eq, slice_index, ◌==◌};
-ghost use Rattle.std.specs.List.{count_by};
-ghost use Rattle.std.specs.Map.{count_at};
-ghost use Rattle.indexmap.specs.IndexMap.{get};
+ghost use Rattle.std.specs.Prelude.{◌≡◌, IfOk, OnOk, length, map, filter, nat_eq, not};
+ghost use Rattle.std.specs.List.{IsDistinct};
 ghost use Rattle.rsml_syntax.specs.Limits.{adds, distinct, shown};
-ghost use Rattle.line_counts.specs.Crossings.{many_at};
-ghost use Rattle.line_counts.specs.Kinds as spec;
+ghost use Rattle.line_counts.specs.Grouped.{places_at};
 ghost use Rattle.line_counts.specs.Lines.{pairs, same_pair};
+ghost use Rattle.line_counts.specs.Sets.{is_among, joined_at, IsWhole};
 
-use crate::crossings::Crossings;
-use crate::kinds::Kinds;
+use crate::bits::Bits;
+use crate::groups::Groups;
+use crate::inverse::{lists_with, named_by, places};
 use crate::lines::Line;
-use crate::members::members;
-use crate::reach::Reach;
-use indexmap::IndexMap;
+use crate::sets::{Sets, numbers};
 use rsml_syntax::NoMemory;
 use std::alloc::Global;
 
@@ -27,76 +24,84 @@ pub fn count_pairs(
     ensures { IfOk result (λ count. count ≡ shown (length (distinct same_pair
         (pairs (map (λ l. l.items) lists.now) columns.now rows.now)))) }
 {
-    let columns = Kinds::of(alloc, columns)?;
-    let rows = Kinds::of(alloc, rows)?;
-    let reach = Reach::of(alloc, lists, &columns, rows.places())?;
-    let of_rows = sum(rows.kinds(), reach.many.as_slice());
-    let others = others(alloc, lists, &columns, &rows, &reach.crossings)?;
+    let numbers = numbers(alloc, lists)?;
+    let sets = Sets::of(alloc, &numbers, lists)?;
+    let of_rows = count_rows(alloc, &sets, &Groups::of(alloc, rows)?)?;
+    let named_by = named_by(alloc, rows, lists.len())?;
+    let others = count_columns(
+        alloc,
+        &sets,
+        &Groups::of(alloc, columns)?,
+        &Sets::of(alloc, &numbers, named_by.as_slice())?,
+        &lists_with(alloc, lists)?,
+    )?;
     Ok(of_rows.saturating_add(others))
 }
 
-// The sum of the counts at these places.
-fn sum(places: &[usize], counts: &[usize]) -> u64
-    ensures { result ≡ shown (adds (λ place. slice_index counts.now place) places.now) }
+// How many pairs rows have.
+fn count_rows(alloc: Global, sets: &Sets<'_, u32>, rows: &Groups) -> Result<u64, NoMemory>
+    requires { IsWhole nat_eq sets.now }
+    ensures count { IfOk result (λ count. count
+        ≡ shown (adds (λ g. length (distinct nat_eq (joined_at sets.now g.1))) rows.now)) }
+    ensures differ { OnOk result (IsDistinct nat_eq (map (λ g. g.0) rows.now)) }
 {
     let mut sum = 0u64;
-    for place in places {
-        sum = sum.saturating_add(counts.get(*place).copied().unwrap_or(0) as u64);
-    }
-    sum
-}
-
-// How many pairs of columns are no pairs of rows.
-fn others(
-    alloc: Global,
-    lists: &[Vec<u32>],
-    columns: &Kinds,
-    rows: &Kinds,
-    crossings: &Crossings,
-) -> Result<u64, NoMemory>
-    ensures { IfOk result (λ count. count ≡ shown (spec.many_others (map (λ l. l.items) lists.now)
-        columns.now rows.now (many_at crossings.now))) }
-{
-    let counts = counts(alloc, columns.kinds())?;
-    let mut sum = 0u64;
-    for (column, places) in columns.places().iter().enumerate() {
-        let numbers = members(alloc, lists, places)?;
-        let many = counts.get(&column).copied().unwrap_or(0);
-        sum = sum.saturating_add(alone(rows, crossings, column, many, numbers.as_slice()));
+    for (_, places) in rows.iter() {
+        sum = sum.saturating_add(count(alloc, sets, places)?);
     }
     Ok(sum)
 }
 
-// How many there are of each.
-fn counts(alloc: Global, kinds: &[usize]) -> Result<IndexMap<usize, usize>, NoMemory>
-    ensures { IfOk result (λ counts. (kind : ℕ) → count_at (get nat_eq counts) kind
-        ≡ count_by (λ k. k == kind) kinds.now) }
-{
-    let mut counts = IndexMap::new(alloc);
-    for kind in kinds {
-        *counts.entry(*kind)?.or_insert(0) += 1;
-    }
-    Ok(counts)
-}
-
-// How many pairs of these numbers and so many columns of a kind are no pairs of rows.
-fn alone(rows: &Kinds, crossings: &Crossings, column: usize, many: usize, numbers: &[u32]) -> u64
-    ensures { result ≡ shown (adds (λ n. many - spec.met_by (many_at crossings.now) rows.now column n)
-        numbers.now) }
+// How many pairs columns have that rows do not have: of a fixed number, these are with the fixed
+// numbers of the rows that name a list with it.
+fn count_columns(
+    alloc: Global,
+    sets: &Sets<'_, u32>,
+    columns: &Groups,
+    named_by: &Sets<'_, u32>,
+    lists_with: &Groups,
+) -> Result<u64, NoMemory>
+    requires whole { IsWhole nat_eq sets.now }
+    requires same { named_by.now.numbers ≡ sets.now.numbers }
+    ensures count { IfOk result (λ count. count ≡ shown (adds (λ g. length (distinct nat_eq
+        (filter (λ n. not (is_among nat_eq
+        (joined_at named_by.now (places_at lists_with.now g.0)) n))
+        (joined_at sets.now g.1)))) columns.now)) }
+    ensures differ { OnOk result (IsDistinct nat_eq (map (λ g. g.0) columns.now)) }
 {
     let mut sum = 0u64;
-    for number in numbers {
-        sum = sum.saturating_add(many.saturating_sub(met(rows, crossings, column, *number)) as u64);
+    for (number, own) in columns.iter() {
+        let others = places(lists_with, *number);
+        sum = sum.saturating_add(count_without(alloc, sets, own, named_by, others)?);
     }
-    sum
+    Ok(sum)
 }
 
-// How many columns of a kind have a pair with this number that rows have too.
-fn met(rows: &Kinds, crossings: &Crossings, column: usize, number: u32) -> usize
-    ensures { result ≡ spec.met_by (many_at crossings.now) rows.now column number }
+// How many numbers the lists at some places have together.
+fn count(alloc: Global, sets: &Sets<'_, u32>, places: &[u32]) -> Result<u64, NoMemory>
+    requires { IsWhole nat_eq sets.now }
+    ensures { IfOk result (λ count. count
+        ≡ shown (length (distinct nat_eq (joined_at sets.now places.now)))) }
 {
-    match rows.kind(number) {
-        Some(row) => crossings.many(row, column),
-        None => 0,
-    }
+    let numbers = sets.union(alloc, places)?;
+    Ok(numbers.count_without(&Bits::new(alloc)))
+}
+
+// How many numbers the lists at some places have together that other lists do not have.
+fn count_without(
+    alloc: Global,
+    sets: &Sets<'_, u32>,
+    places: &[u32],
+    other_sets: &Sets<'_, u32>,
+    other_places: &[u32],
+) -> Result<u64, NoMemory>
+    requires whole { IsWhole nat_eq sets.now }
+    requires same { other_sets.now.numbers ≡ sets.now.numbers }
+    ensures { IfOk result (λ count. count ≡ shown (length (distinct nat_eq
+        (filter (λ n. not (is_among nat_eq (joined_at other_sets.now other_places.now) n))
+        (joined_at sets.now places.now))))) }
+{
+    let own = sets.union(alloc, places)?;
+    let others = other_sets.union(alloc, other_places)?;
+    Ok(own.count_without(&others))
 }

@@ -1,24 +1,34 @@
-use Rattle.std.proofs.Common.{ℤ, nat_eq, length, filter, ap, ◌∙◌}
+use Rattle.std.proofs.Common.{◌≡◌, ℤ, List, Option, Some, ◌*◌, ◌&&◌, not, int_lt, int_le, slice_get, false, length, filter, ap, sym, ◌∙◌}
 use Rattle.std.specs.Cmp.{int_eq_equiv}
-use Rattle.std.specs.Cmp.Lexicographic.{pointwise, nat_list_eq_equiv}
-use Rattle.std.specs.List.{list_any}
+use Rattle.std.specs.Option.{option_map_or}
 use Rattle.std.specs.Ordering.{int_eq}
-use Rattle.line_counts.specs.Joined.{Unions, joined}
-use Rattle.line_counts.specs.Lines.{is_within}
-use Rattle.rsml_syntax.specs.Limits.{distinct}
-use Rattle.line_counts.proofs.EntryLemmas.{within_alike}
-use Rattle.line_counts.proofs.UnionLemmas.{has_put, many_members}
+use Rattle.std.proofs.lemmas.Option.{slice_get-get_or}
+use Rattle.std.proofs.lemmas.Result.{IfOk-weaker}
+use Rattle.rsml_syntax.specs.Limits.{distinct, shown}
+use Rattle.line_counts.specs.declared.lines.Range.{Range}
+use Rattle.line_counts.specs.Bits.{bit, one, adds_below}
+use Rattle.line_counts.specs.Outside.{is_outside}
+use Rattle.line_counts.specs.Sets.{passes_at, joined_at}
+use Rattle.line_counts.proofs.CountLemmas.{count_failing, whole_has, whole_differs, filter_not_not}
+use Rattle.line_counts.proofs.EntryLemmas.{none_within, outside_alike}
 use Rattle.line_counts.proofs.entries.count_group.Goals as goal
 
-pub get-requires : goal.get-requires
-get-requires c =
-    ap (λ (u : Unions ℤ). list_any (pointwise nat_eq c.args.places.now) u.known) c.in_ok-put.ensures
-    ∙ has_put (pointwise nat_eq) nat_list_eq_equiv c.args.unions.now.known c.args.places.now
+pub returns-in_ok-own-in-Some-clause-count : goal.returns-in_ok-own-in-Some-clause-count
+returns-in_ok-own-in-Some-clause-count c =
+    let own = c.in_ok-own-in-Some.own in
+    let sets = c.args.sets.now in
+    let range = c.in-Some.range.now in
+    let numbers = joined_at sets c.args.places.now in
+    let is : Some range ≡ slice_get c.args.ranges.now c.args.fixed = ap (λ (r : Range). Some r) (c.in-Some.ensures.lookup.3.1 range) ∙ sym (slice_get-get_or c.args.ranges.now c.args.fixed range c.in-Some.ensures.lookup.3.0) in
+    let counted =
+    ap (λ (ns : List ℤ). adds_below (λ q. one (bit own q && not (passes_at (is_outside range) ns q))) (64 * length own)) c.requires.same
+    ∙ count_failing int_eq int_eq_equiv sets.numbers numbers (is_outside range) own (outside_alike range)
+    (whole_differs int_eq int_eq_equiv sets c.requires.whole) (whole_has int_eq int_eq_equiv sets c.args.places.now c.requires.whole) c.in_ok-own-in-Some.ensures
+    ∙ ap (λ (ns : List ℤ). length (distinct int_eq ns))
+    (filter_not_not (λ n. int_lt range.low n && int_le n range.high) numbers
+    ∙ ap (λ (o : Option Range). filter (λ n. option_map_or (λ r. int_lt r.low n && int_le n r.high) o false) numbers) is) in
+    IfOk-weaker c.count_within.result _ _ (λ count h. h ∙ ap shown counted) c.count_within.ensures.count
 
-pub returns-clause-count : goal.returns-clause-count
-returns-clause-count c =
-    let within = is_within c.args.ranges.now c.args.fixed in
-    let places = c.args.places.now in
-    c.count_within.ensures
-    ∙ many_members int_eq int_eq_equiv within (within_alike c.args.ranges.now c.args.fixed) (joined c.put.new.self.lists places) c.get.result.now.keys c.get.ensures
-    ∙ ap (λ (u : Unions ℤ). length (distinct int_eq (filter within (joined u.lists places)))) c.in_ok-put.ensures
+pub returns-in-None-clause-count : goal.returns-in-None-clause-count
+returns-in-None-clause-count c =
+    ap (λ (ns : List ℤ). shown (length (distinct int_eq ns))) (sym (none_within c.args.ranges.now c.args.fixed (joined_at c.args.sets.now c.args.places.now) c.in-None.ensures.lookup.3))
