@@ -1,8 +1,10 @@
 #!/usr/bin/env bash
 # Compares the arena of bdd_core with BuDDy on the same work: bench/diagrams.sh [ROUNDS [TASK..]]
 # Each task runs ROUNDS times (3) in each program, one after the other, and the least time counts. A task is queens=N,
-# equal=N or tables=N. BuDDy gets its tables beforehand, for 20,000,000 nodes and 2,000,000 results, and never reorders; the
-# arena grows by itself. The last columns are the arena's greatest resident memory, and that for each node.
+# equal=N or tables=N. BuDDy makes its tables before its time begins, for 20,000,000 nodes and 2,000,000 results, and never
+# reorders; the arena grows by itself, and its time has the making of the arena and the count of the answer's nodes too. The
+# sizes of the answers are compared. The last columns are the arena's greatest resident memory, and that for each node.
+# It needs BuDDy (Debian: libbdd-dev) and a C compiler, and installs nothing: without them it ends with status 2.
 set -u
 here=$(cd "$(dirname "$0")" && pwd)
 rounds=${1:-3}
@@ -12,17 +14,17 @@ tasks=("$@")
 work=$(mktemp -d)
 trap 'rm -rf "$work"' EXIT
 
+if ! cc -O3 -o "$work/buddy" "$here/buddy.c" -lbdd 2>"$work/cc.log"; then
+  head -n 3 "$work/cc.log"
+  echo "BuDDy is not there: install a C compiler and libbdd-dev (apt-get install gcc libbdd-dev), and run this again"
+  exit 2
+fi
+
 (cd "$here/../crates/bdd_bench" && rt run -- queens=4) >"$work/build.log" 2>&1 ||
   { tail -n 5 "$work/build.log"; exit 1; }
 cp "$here/../crates/bdd_bench/out/bdd_bench" "$work/arena"
 
-[ -f /usr/include/bdd.h ] || apt-get install -y libbdd-dev >/dev/null 2>&1
-if [ -f /usr/include/bdd.h ] && cc -O3 -o "$work/buddy" "$here/buddy.c" -lbdd; then
-  peer=yes
-else
-  peer=no
-  echo "BuDDy (libbdd-dev) is not installed: its columns are skipped"
-fi
+echo "BuDDy's tables are made before its time begins; the arena makes its own within its time"
 
 # field NAME: the number that follows a word in a line
 field() { sed -n "s/.* $1 \([0-9]*\).*/\1/p"; }
@@ -32,7 +34,7 @@ least() { if [ -z "$1" ] || [ "$2" -lt "$1" ]; then echo "$2"; else echo "$1"; f
 
 printf '%-10s %10s %10s %10s %7s %10s %7s\n' task nodes 'arena s' 'BuDDy s' ratio kilobytes B/node
 for task in "${tasks[@]}"; do
-  ours='' theirs='' kilobytes='-' bytes='-' ratio='-'
+  ours='' theirs='' kilobytes='-' bytes='-'
   for _ in $(seq "$rounds"); do
     if [ -x /usr/bin/time ]; then
       line=$(/usr/bin/time -o "$work/memory" -f %M "$work/arena" seconds "$task")
@@ -42,12 +44,15 @@ for task in "${tasks[@]}"; do
     fi
     nodes=$(echo "$line" | field nodes)
     ours=$(least "$ours" "$(echo "$line" | field microseconds)")
-    if [ $peer = yes ]; then
-      theirs=$(least "$theirs" "$("$work/buddy" "$task" | field microseconds)")
+    peer=$("$work/buddy" "$task")
+    theirs=$(least "$theirs" "$(echo "$peer" | field microseconds)")
+    if [ "$(echo "$line" | field size)" != "$(echo "$peer" | field size)" ]; then
+      printf '%s: the answers have other sizes:\n%s\n%s\n' "$task" "$line" "$peer"
+      exit 1
     fi
   done
   [ "$kilobytes" = - ] || bytes=$(awk "BEGIN { printf \"%.1f\", $kilobytes * 1024 / $nodes }")
-  [ -z "$theirs" ] || ratio=$(awk "BEGIN { printf \"%.2f\", $ours / $theirs }")
+  ratio=$(awk "BEGIN { printf \"%.2f\", $ours / $theirs }")
   printf '%-10s %10s %10s %10s %7s %10s %7s\n' "$task" "$nodes" "$(awk "BEGIN { printf \"%.3f\", $ours / 1e6 }")" \
-    "$([ -z "$theirs" ] && echo - || awk "BEGIN { printf \"%.3f\", $theirs / 1e6 }")" "$ratio" "$kilobytes" "$bytes"
+    "$(awk "BEGIN { printf \"%.3f\", $theirs / 1e6 }")" "$ratio" "$kilobytes" "$bytes"
 done

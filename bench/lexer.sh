@@ -21,10 +21,10 @@ awk 'BEGIN {
 }' | head -c 1048576 > "$work/text"
 
 rustc -O -o "$work/plain" bench/lexer.rs
-(cd crates/lex_bench && rt run -- "$work/text" 1 time > /dev/null)
+(cd crates/text_bench && rt run -- lexer "$work/text" 1 > /dev/null)
 for _ in 1 2 3 4 5; do
   "$work/plain" "$work/text" 40 >> "$work/plain.out"
-  crates/lex_bench/out/lex_bench "$work/text" 40 time >> "$work/proved.out"
+  crates/text_bench/out/text_bench lexer "$work/text" 40 time >> "$work/proved.out"
 done
 
 tokens() { awk '$1 == "tokens" { print $2 }' "$1" | sort -u; }

@@ -28,16 +28,18 @@ awk 'BEGIN {
 echo "bytes $(wc -c < "$work/text")"
 
 rustc -O -o "$work/plain" bench/parser.rs
-(cd crates/parse_bench && rt run -- "$work/text" 1 > /dev/null)
+(cd crates/text_bench && rt run -- parser "$work/text" 1 > /dev/null)
+bench=crates/text_bench/out/text_bench
+"$bench" lexer "$work/text" 1 > "$work/proved.out"
 for _ in 1 2 3 4 5; do
   "$work/plain" "$work/text" 20 >> "$work/plain.out"
-  crates/parse_bench/out/parse_bench "$work/text" 20 time >> "$work/proved.out"
+  "$bench" parser "$work/text" 20 time >> "$work/proved.out"
 done
 
 # The most memory that a command takes, in bytes.
 memory() { python3 -c 'import resource, subprocess, sys; subprocess.run(sys.argv[1:], stdout=subprocess.DEVNULL); print(resource.getrusage(resource.RUSAGE_CHILDREN).ru_maxrss * 1024)' "$@"; }
-lexed=$(memory crates/parse_bench/out/parse_bench "$work/text" 0)
-parsed=$(memory crates/parse_bench/out/parse_bench "$work/text" 1)
+lexed=$(memory "$bench" lexer "$work/text" 1)
+parsed=$(memory "$bench" parser "$work/text" 1)
 
 counts() { grep -v nanoseconds "$1" | sort -u; }
 least() { awk '$1 == "nanoseconds" && (least == "" || $2 + 0 < least + 0) { least = $2 } END { print least }' "$1"; }

@@ -9,7 +9,7 @@ use Rattle.std.proofs.lemmas.Bool.Decides.{Decides-eqb, same_from_decides, nat_t
 use lib.Bits.{bit_and, and_step, and_zero_r}
 use Rattle.rsml_syntax.specs.declared.syntax.Cell.{Cell}
 use Rattle.rsml_syntax.specs.declared.syntax.Cell.TheVariants as cells
-use Rattle.rsml_syntax.specs.Tables.{allows, column, below}
+use Rattle.rsml_syntax.specs.rules.Tables.{allows, column, below}
 use Rattle.and_or_tables.specs.Asked.{bit, asked}
 use Rattle.and_or_tables.specs.Cells.{cares, wants, care_word, want_word}
 

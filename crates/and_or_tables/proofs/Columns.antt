@@ -5,7 +5,7 @@ use Rattle.std.proofs.lemmas.List.{get_or-map, length-map, map_more}
 use Rattle.std.proofs.lemmas.List.Folds.{list_all-append, list_any-append, list_all_at}
 use Rattle.std.proofs.lemmas.Bool.{cases_lt}
 use Rattle.rsml_syntax.specs.declared.syntax.Cell.TheVariants as cells
-use Rattle.rsml_syntax.specs.Tables.{TableRow, allows, column, width, below}
+use Rattle.rsml_syntax.specs.rules.Tables.{TableRow, allows, column, width, below}
 use Rattle.and_or_tables.specs.declared.ground.GroundRow.{GroundRow}
 use Rattle.and_or_tables.specs.declared.ground.GroundTable.{GroundTable}
 use Rattle.and_or_tables.specs.Ground.{known, ground_row, ground_table}

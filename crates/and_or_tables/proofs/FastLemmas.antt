@@ -5,7 +5,7 @@ use Rattle.std.specs.Simd.Lanes.{mask_l}
 use Rattle.std.proofs.lemmas.List.{length-map, length-drop}
 use Rattle.std.proofs.lemmas.Simd.{get_or-zip2, length-zip2}
 use Rattle.rsml_syntax.specs.declared.syntax.Cell.{Cell}
-use Rattle.rsml_syntax.specs.Tables.{below, table_truth}
+use Rattle.rsml_syntax.specs.rules.Tables.{below, table_truth}
 use Rattle.and_or_tables.specs.declared.fast.FastTable.TheInside.{Inside}
 use Rattle.and_or_tables.specs.declared.ground.GroundRow.{GroundRow}
 use Rattle.and_or_tables.specs.declared.ground.GroundTable.{GroundTable}

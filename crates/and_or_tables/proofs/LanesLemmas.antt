@@ -9,7 +9,7 @@ use Rattle.std.proofs.Math.Bool.{or-false, or-true}
 use Rattle.std.proofs.lemmas.Bool.Decides.{nat_tests}
 use mir.Val.{bits, hbits}
 use lib.Bits.{bit_and}
-use Rattle.rsml_syntax.specs.Tables.{below}
+use Rattle.rsml_syntax.specs.rules.Tables.{below}
 use Rattle.and_or_tables.specs.Cells.{holds}
 
 -- a mask is not 0 where one of its bits is set

@@ -7,7 +7,7 @@ use Rattle.std.proofs.lemmas.Simd.{length-zip2, mask_l-lt}
 use Rattle.std.proofs.Math.Nat.{pow-le-pow_right}
 use Rattle.rsml_syntax.specs.declared.syntax.Cell.{Cell}
 use Rattle.rsml_syntax.specs.declared.syntax.Cell.TheVariants as cells
-use Rattle.rsml_syntax.specs.Tables.{column, width, below, table_truth}
+use Rattle.rsml_syntax.specs.rules.Tables.{column, width, below, table_truth}
 use Rattle.and_or_tables.specs.declared.ground.GroundRow.{GroundRow}
 use Rattle.and_or_tables.specs.declared.ground.GroundTable.{GroundTable}
 use Rattle.and_or_tables.specs.declared.masks.MaskTable.TheInside.{Inside}

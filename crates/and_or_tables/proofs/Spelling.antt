@@ -8,7 +8,7 @@ use Rattle.std.proofs.lemmas.Bool.{cases_lt}
 use Rattle.std.proofs.lemmas.Simd.{map-map, zip2-map, bit_mask_l}
 use Rattle.rsml_syntax.specs.declared.syntax.Cell.{Cell}
 use Rattle.rsml_syntax.specs.declared.syntax.Cell.TheVariants as cells
-use Rattle.rsml_syntax.specs.Tables.{below}
+use Rattle.rsml_syntax.specs.rules.Tables.{below}
 use Rattle.and_or_tables.specs.Asked.{bit}
 use Rattle.and_or_tables.specs.Cells.{cares, wants, care_word, want_word, spelled_cell, spelled_row, spelled}
 use Rattle.and_or_tables.proofs.Bits.{below-suc}

@@ -3,7 +3,7 @@ use Rattle.std.specs.Prelude.{ℕ, ◌==◌, Bool, List, length, map}
 use Rattle.std.specs.Int.{bit_at}
 use Rattle.std.specs.List.{zip}
 use Rattle.rsml_syntax.specs.declared.syntax.Cell.{Cell}
-use Rattle.rsml_syntax.specs.Tables.{TableRow, below}
+use Rattle.rsml_syntax.specs.rules.Tables.{TableRow, below}
 
 -- bit k of a word, counted from 0
 abbrev pub bit : ℕ → ℕ → Bool

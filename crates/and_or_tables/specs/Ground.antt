@@ -1,6 +1,6 @@
 -- When a ground table is true: its phrases are numbers, whose truths a list has.
 use Rattle.std.specs.Prelude.{ℕ, Bool, false, List, map, slice_index_or}
-use Rattle.rsml_syntax.specs.Tables.{TableRow, table_truth}
+use Rattle.rsml_syntax.specs.rules.Tables.{TableRow, table_truth}
 use Rattle.and_or_tables.specs.declared.ground.GroundRow.{GroundRow}
 use Rattle.and_or_tables.specs.declared.ground.GroundTable.{GroundTable}
 

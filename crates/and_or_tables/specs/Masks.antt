@@ -1,7 +1,7 @@
 -- What a mask table is: the cells that its words spell.
 use Rattle.std.specs.Prelude.{◌≡◌, ◌<◌, List, length, map}
 use Rattle.rsml_syntax.specs.declared.syntax.Cell.{Cell}
-use Rattle.rsml_syntax.specs.Tables.{below}
+use Rattle.rsml_syntax.specs.rules.Tables.{below}
 use Rattle.and_or_tables.specs.Cells.{care_word, want_word, spelled}
 use Rattle.and_or_tables.specs.declared.masks.MaskTable.TheInside.{Inside}
 

@@ -31,7 +31,7 @@ impl Model for FastTable {
 
 impl FastTable {
     /// The fast form of a table.
-    pub fn build(alloc: Global, table: &GroundTable) -> Result<FastTable, NoMemory>
+    pub fn new(alloc: Global, table: &GroundTable) -> Result<FastTable, NoMemory>
         requires { IsTable table.now }
         ensures { IfOk result (λ fast. fast ≡ table.now) }
     {

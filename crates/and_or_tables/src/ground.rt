@@ -1,5 +1,5 @@
 ghost use Rattle.std.specs.Prelude.{◌≡◌, ◌<◌, All, length, map, slice_index_or};
-ghost use Rattle.rsml_syntax.specs.Tables.{allows, column};
+ghost use Rattle.rsml_syntax.specs.rules.Tables.{allows, column};
 ghost use Rattle.and_or_tables.specs.Ground.{ground_row, ground_table, known};
 ghost use Rattle.and_or_tables.specs.Shape.{IsTable, PhrasesBelow, cells_of, columns};
 

@@ -2,7 +2,7 @@
 ghost use Rattle.std.specs.Prelude.{◌≡◌, ◌+◌, ◌<◌, ◌≤◌, ◌==◌, false, bit_and, length};
 ghost use Rattle.std.specs.List.{list_any, range_with_len};
 ghost use Rattle.std.specs.Simd.Lanes.{zip2};
-ghost use Rattle.rsml_syntax.specs.Tables.{below};
+ghost use Rattle.rsml_syntax.specs.rules.Tables.{below};
 ghost use Rattle.and_or_tables.specs.Cells.{holds};
 
 use std::simd::prelude::*;

@@ -1,5 +1,5 @@
 ghost use Rattle.std.specs.Prelude.{◌≡◌, ◌+◌, ◌*◌, ◌^◌, ◌<◌, ◌≤◌, if◌then◌else◌, All, EachIndex, IfOk, count_by, length, map, slice_index};
-ghost use Rattle.rsml_syntax.specs.Tables.{column, table_truth};
+ghost use Rattle.rsml_syntax.specs.rules.Tables.{column, table_truth};
 ghost use Rattle.and_or_tables.specs.Asked.{asked};
 ghost use Rattle.and_or_tables.specs.Cells.{care_word, cares, want_word, wants};
 ghost use Rattle.and_or_tables.specs.Shape.{IsTable, cells_of, columns};

@@ -89,7 +89,7 @@ fn agrees_with_the_rule_on_all_small_tables(rt: HostRuntime) -> Result<(), Fail>
         let cells = cells_of_number(number);
         let table = table(rt.alloc(), 3, 2, &cells)?;
         let masks = MaskTable::build(rt.alloc(), &table)?;
-        let fast = FastTable::build(rt.alloc(), &table)?;
+        let fast = FastTable::new(rt.alloc(), &table)?;
         for bits in 0..8 {
             let mut truths = Truths::new(rt.alloc(), 3)?;
             truths.set(0, bits % 2 == 1);

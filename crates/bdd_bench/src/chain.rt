@@ -2,12 +2,12 @@ ghost use Rattle.std.specs.Prelude.{◌≡◌, ◌≤◌, ◌<◌, length, IfOk}
 ghost use Rattle.bdd_core.specs.Diagram.{IsRef};
 
 use bdd_core::{Arena, Ref};
-use rsml_syntax::NoMemory;
+use rsml_base::NoMemory;
 
-// How many variables are added at once from the top.
+/// How many variables are added at once from the top.
 const BLOCK: u32 = 1000;
 
-// The conjunction of the variables from `start` up to `end`, built from the last to the first.
+/// The conjunction of the variables from `start` up to `end`, built from the last to the first.
 fn block(arena: &mut Arena, start: u32, end: u32) -> Result<Ref, NoMemory>
     requires { end ≤ arena.old.levels }
     ensures levels { arena.new.levels ≡ arena.old.levels }
@@ -22,8 +22,9 @@ fn block(arena: &mut Arena, start: u32, end: u32) -> Result<Ref, NoMemory>
     Ok(all)
 }
 
-/// The conjunction of so many variables, from the last to the first. Then each call that goes down all of it: the negation, a
-/// conjunction with the last variable, a choice, and the last variable put true.
+/// The conjunction of so many variables, from the last to the first. Then each call that goes down
+/// all of it: the negation, a conjunction with the last variable, a choice, and the last variable
+/// put true.
 pub fn bottom(arena: &mut Arena, size: u32) -> Result<Ref, NoMemory>
     requires { arena.old.levels ≡ size }
     ensures { IfOk result (IsRef arena.new) }

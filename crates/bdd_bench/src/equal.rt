@@ -2,12 +2,13 @@ ghost use Rattle.std.specs.Prelude.{◌≡◌, ◌≤◌, IfOk};
 ghost use Rattle.bdd_core.specs.Diagram.{IsRef};
 
 use bdd_core::{Arena, Ref};
-use rsml_syntax::NoMemory;
+use rsml_base::NoMemory;
 
 /// The most bits of a number.
 pub const MAX_BITS: u32 = 64;
 
-/// Two numbers of so many bits are equal, where all bits of the one stand before those of the other.
+/// Two numbers of so many bits are equal, where all bits of the one stand before those of the
+/// other.
 pub fn equal(arena: &mut Arena, bits: u32) -> Result<Ref, NoMemory>
     requires arena { arena.old.levels ≡ 128 }
     requires bits { bits ≤ 64 }

@@ -2,12 +2,12 @@ ghost use Rattle.std.specs.Prelude.{◌≡◌, ◌≤◌, ◌<◌, length, IfOk,
 ghost use Rattle.bdd_core.specs.Diagram.{IsRef};
 
 use bdd_core::{Arena, Ref};
-use rsml_syntax::NoMemory;
+use rsml_base::NoMemory;
 
 /// The greatest board.
 pub const MAX_SIZE: u32 = 11;
 
-// The four lines through a square.
+/// The four lines through a square.
 #[derive(Clone, Copy)]
 enum Line {
     Row,
@@ -16,7 +16,7 @@ enum Line {
     Rising,
 }
 
-// The level of the square in a row and a column.
+/// The level of the square in a row and a column.
 fn square(row: u32, column: u32) -> u32
     requires row { row < 11 }
     requires column { column < 11 }
@@ -25,7 +25,8 @@ fn square(row: u32, column: u32) -> u32
     MAX_SIZE * row + column
 }
 
-// The square that stands at a place of a line through a square, where it is on the board and another one.
+/// The square that stands at a place of a line through a square, where it is on the board and
+/// another one.
 fn met(size: u32, row: u32, column: u32, line: Line, place: u32) -> Option<u32>
     requires size { size ≤ 11 }
     requires row { row < size }
@@ -45,7 +46,7 @@ fn met(size: u32, row: u32, column: u32, line: Line, place: u32) -> Option<u32>
     Some(square(met_row, met_column))
 }
 
-// Not both levels are true.
+/// Not both levels are true.
 fn apart(arena: &mut Arena, one: u32, other: u32) -> Result<Ref, NoMemory>
     requires one { one < arena.old.levels }
     requires other { other < arena.old.levels }
@@ -60,7 +61,7 @@ fn apart(arena: &mut Arena, one: u32, other: u32) -> Result<Ref, NoMemory>
     arena.or(not_one, not_other)
 }
 
-// No other square of a line through a square is taken with it.
+/// No other square of a line through a square is taken with it.
 fn alone(arena: &mut Arena, size: u32, row: u32, column: u32, line: Line) -> Result<Ref, NoMemory>
     requires arena { arena.old.levels ≡ 128 }
     requires size { size ≤ 11 }
@@ -81,7 +82,7 @@ fn alone(arena: &mut Arena, size: u32, row: u32, column: u32, line: Line) -> Res
     Ok(all)
 }
 
-// Some square of a row is taken.
+/// Some square of a row is taken.
 fn some_in(arena: &mut Arena, size: u32, row: u32) -> Result<Ref, NoMemory>
     requires arena { arena.old.levels ≡ 128 }
     requires size { size ≤ 11 }
@@ -98,7 +99,7 @@ fn some_in(arena: &mut Arena, size: u32, row: u32) -> Result<Ref, NoMemory>
     Ok(some)
 }
 
-// No other square of the four lines through a square is taken with it.
+/// No other square of the four lines through a square is taken with it.
 fn safe(arena: &mut Arena, size: u32, row: u32, column: u32) -> Result<Ref, NoMemory>
     requires arena { arena.old.levels ≡ 128 }
     requires size { size ≤ 11 }
@@ -117,7 +118,7 @@ fn safe(arena: &mut Arena, size: u32, row: u32, column: u32) -> Result<Ref, NoMe
     arena.and(straight, slanting)
 }
 
-// A board, with the squares of a row safe.
+/// A board, with the squares of a row safe.
 fn safe_row(arena: &mut Arena, size: u32, row: u32, board: Ref) -> Result<Ref, NoMemory>
     requires arena { arena.old.levels ≡ 128 }
     requires size { size ≤ 11 }
@@ -135,7 +136,7 @@ fn safe_row(arena: &mut Arena, size: u32, row: u32, board: Ref) -> Result<Ref, N
     Ok(board)
 }
 
-// Some square of each row is taken.
+/// Some square of each row is taken.
 fn some_in_each(arena: &mut Arena, size: u32) -> Result<Ref, NoMemory>
     requires arena { arena.old.levels ≡ 128 }
     requires size { size ≤ 11 }

@@ -2,7 +2,7 @@ ghost use Rattle.std.specs.Prelude.{◌≡◌, ◌≤◌, ◌<◌, length, IfOk}
 ghost use Rattle.bdd_core.specs.Diagram.{IsRef};
 
 use bdd_core::{Arena, Ref};
-use rsml_syntax::NoMemory;
+use rsml_base::NoMemory;
 
 const VARIABLES: u32 = 60;
 
@@ -10,14 +10,14 @@ const COLUMNS: u32 = 5;
 
 const ROWS: u32 = 3;
 
-// Numbers that look random, the same in each run.
+/// Numbers that look random, the same in each run.
 #[derive(Drop)]
 struct Numbers {
     state: u64,
 }
 
 impl Numbers {
-    // The next number below a bound.
+    /// The next number below a bound.
     fn below(&mut self, bound: u32) -> u32
         requires { 0 < bound }
         ensures { result < bound }
@@ -30,7 +30,7 @@ impl Numbers {
     }
 }
 
-// A random variable, or its negation.
+/// A random variable, or its negation.
 fn literal(arena: &mut Arena, numbers: &mut Numbers) -> Result<Ref, NoMemory>
     requires { arena.old.levels ≡ 128 }
     ensures levels { arena.new.levels ≡ arena.old.levels }
@@ -44,7 +44,7 @@ fn literal(arena: &mut Arena, numbers: &mut Numbers) -> Result<Ref, NoMemory>
     Ok(variable)
 }
 
-// The conjunction of random literals.
+/// The conjunction of random literals.
 fn column(arena: &mut Arena, numbers: &mut Numbers) -> Result<Ref, NoMemory>
     requires { arena.old.levels ≡ 128 }
     ensures levels { arena.new.levels ≡ arena.old.levels }
@@ -59,7 +59,7 @@ fn column(arena: &mut Arena, numbers: &mut Numbers) -> Result<Ref, NoMemory>
     Ok(all)
 }
 
-// The disjunction of random columns.
+/// The disjunction of random columns.
 fn table(arena: &mut Arena, numbers: &mut Numbers) -> Result<Ref, NoMemory>
     requires { arena.old.levels ≡ 128 }
     ensures levels { arena.new.levels ≡ arena.old.levels }

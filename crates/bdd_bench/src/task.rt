@@ -4,7 +4,7 @@ ghost use Rattle.bdd_bench.specs.Fits.{Fits, levels_of};
 
 use crate::{chain, equal, queens, tables};
 use bdd_core::{Arena, Ref};
-use rsml_syntax::NoMemory;
+use rsml_base::NoMemory;
 
 /// A task, of a size.
 #[derive(Clone, Copy)]
@@ -15,14 +15,16 @@ pub enum Task {
     Equal(u32),
     /// The conjunction of so many random tables.
     Tables(u32),
-    /// The conjunction of so many variables, from the last to the first, and calls that go down all of it.
+    /// The conjunction of so many variables, from the last to the first, and calls that go down all
+    /// of it.
     Bottom(u32),
     /// The conjunction of so many variables from the first on, a thousand at a time.
     Top(u32),
 }
 
 impl Task {
-    /// The task that a word names, as `queens=8`. None where it names none, or one of a size that is out of range.
+    /// The task that a word names, as `queens=8`. None where it names none, or one of a size that
+    /// is out of range.
     pub fn from_word(word: &str) -> Option<Task>
         ensures { IfSome result Fits }
     {

@@ -1,8 +1,7 @@
 -- That the place which the recursion answers has the function that was asked for.
-use Rattle.std.proofs.Common.{◌≡◌, ◌↔◌, IsTrue, true≢false, ℕ, zero, suc, ◌<◌, ◌≤◌, Bool, true, false, not, ◌&&◌, ◌||◌, if◌then◌else◌, refl, sym, ap, ◌∙◌, arith, Result, Ok, IfOk, Err, subst, slice_get, Some, eqb, eq-eqb}
+use Rattle.std.proofs.Common.{◌≡◌, ◌↔◌, IsTrue, ℕ, zero, suc, ◌<◌, ◌≤◌, Bool, true, false, not, ◌&&◌, ◌||◌, if◌then◌else◌, refl, sym, ap, ◌∙◌, arith, subst, slice_get, Some, eqb, eq-eqb}
 use Rattle.std.proofs.lemmas.Option.{get_or_from_slice_get}
 use Rattle.std.proofs.lemmas.Bool.{eqb-true}
-use Rattle.bdd_core.specs.declared.branch.Branch.{Branch}
 use Rattle.bdd_core.specs.declared.node.Node.{Node}
 use Rattle.bdd_core.specs.Diagram.{Diagram, no_node, IsRef, node_at, child_of, meaning, IsReduced, IsReducedNode}
 use Rattle.bdd_core.specs.Calls.{Keeps, Represents, with_value, IsConstant, IsBranch}

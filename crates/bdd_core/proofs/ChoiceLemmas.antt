@@ -1,5 +1,5 @@
 -- `if f then g else h`: the simple cases, the operands in another order, and a node over the choices of children.
-use Rattle.std.proofs.Common.{◌≡◌, ℕ, ◌<◌, ◌≤◌, min, Bool, true, false, if◌then◌else◌, refl, sym, ap, subst, ◌∙◌, arith}
+use Rattle.std.proofs.Common.{◌≡◌, ℕ, Bool, true, false, if◌then◌else◌, refl, sym, ap, subst, ◌∙◌, arith}
 use Rattle.bdd_core.specs.Diagram.{Diagram, IsRef, level_of, meaning}
 use Rattle.bdd_core.specs.Calls.{Keeps}
 use Rattle.bdd_core.specs.Steps.{chosen, least_level, IsChoice, IsSameChoice, IsChildren, IsNode}

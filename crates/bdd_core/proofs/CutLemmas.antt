@@ -1,6 +1,6 @@
 -- A function where a level has a value: a constant, a node of a greater level, a node of that level, and a node over the cuts of children.
-use Rattle.std.proofs.Common.{◌≡◌, ◌≢◌, ℕ, ◌<◌, ◌≤◌, Bool, true, false, if◌then◌else◌, refl, sym, ◌∙◌, arith, zero, suc}
-use Rattle.bdd_core.specs.Diagram.{Diagram, IsRef, level_of, meaning, IsReduced}
+use Rattle.std.proofs.Common.{◌≡◌, ◌≢◌, ℕ, ◌<◌, Bool, true, false, if◌then◌else◌, refl, sym, ◌∙◌, arith, zero, suc}
+use Rattle.bdd_core.specs.Diagram.{Diagram, IsRef, level_of, IsReduced}
 use Rattle.bdd_core.specs.Calls.{Keeps, with_value}
 use Rattle.bdd_core.specs.Steps.{IsChildren, IsNode, IsCut}
 use Rattle.bdd_core.proofs.MeaningLemmas.{meaning-false, meaning-true}

@@ -1,5 +1,5 @@
 -- Which nodes a conjunction adds: each exit of the recursion, over the diagrams that it passes through.
-use Rattle.std.proofs.Common.{◌≡◌, ℕ, ◌<◌, ◌≤◌, Bool, true, false, ◌&&◌, if◌then◌else◌, length, refl, ap, ◌∙◌, arith, inl, inr}
+use Rattle.std.proofs.Common.{◌≡◌, ℕ, ◌≤◌, Bool, true, false, ◌&&◌, if◌then◌else◌, length, refl, ap, ◌∙◌, arith, inl, inr}
 use Rattle.std.proofs.lemmas.Bool.{cases_lt}
 use Rattle.bdd_core.specs.Diagram.{Diagram, IsRef, meaning, IsReduced}
 use Rattle.bdd_core.specs.Reach.{Reaches}

@@ -1,7 +1,6 @@
 -- An arena holds from its beginning, and after a node is put in.
-use Rattle.std.proofs.Common.{◌≡◌, ◌≢◌, ℕ, zero, suc, ◌<◌, ◌≤◌, ◌^◌, Bool, true, false, List, [], ◌∷◌, ◌++◌, if◌then◌else◌, length, refl, sym, ap, subst, ◌∙◌, arith, ◌⊎◌, inl, inr, length-append, slice_get, Some, Result, Ok, Err, IfOk, OnErr, ◌&&◌, eqb, eq-eqb, true≢false, Contains}
+use Rattle.std.proofs.Common.{◌≡◌, ◌≢◌, ℕ, zero, suc, ◌<◌, ◌≤◌, ◌^◌, Bool, true, false, List, [], ◌∷◌, ◌++◌, if◌then◌else◌, length, refl, sym, ap, subst, ◌∙◌, arith, ◌⊎◌, inl, inr, length-append, slice_get, Some, ◌&&◌, eqb, eq-eqb, true≢false}
 use Rattle.std.specs.List.{list_any, IsDistinct}
-use Rattle.std.specs.HashSet.{HashSet, IsUnchanged}
 use Rattle.std.specs.Cmp.Derive.{both_true}
 use Rattle.std.proofs.Math.ListN.{get_or-append}
 use Rattle.std.proofs.Math.Seq.{get_or-append_seam}

@@ -1,6 +1,5 @@
 -- What a computed table holds after it gained an answer, and that an arena holds with it.
-use Rattle.std.proofs.Common.{◌≡◌, ℕ, ◌<◌, ◌≤◌, List, ◌++◌, length, take, replicate, ◌⊎◌, inl, inr, refl, subst, sym, arith, Contains, eqb, Bool, true, false}
-use Rattle.std.specs.List.{All}
+use Rattle.std.proofs.Common.{◌≡◌, ℕ, ◌≤◌, List, ◌++◌, length, take, replicate, ◌⊎◌, inl, inr, refl, subst, sym, arith, Contains, eqb, Bool, true, false}
 use mir.Val.{bool_byte}
 use Rattle.std.proofs.lemmas.List.Elements.{All-append, All-take, All-weaker, All-contains_itself, All-replicate, All-contains}
 use Rattle.bdd_core.specs.declared.computed.Kept.{Kept}

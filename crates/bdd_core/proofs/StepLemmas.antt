@@ -1,5 +1,5 @@
 -- That calls keep what was there, one after another, and what stands for a place where a level is false and true.
-use Rattle.std.proofs.Common.{◌≡◌, ◌≢◌, ℕ, ◌<◌, ◌≤◌, Bool, true, false, List, if◌then◌else◌, length, refl, sym, ap, subst, ◌∙◌, arith, slice_get, Some}
+use Rattle.std.proofs.Common.{◌≡◌, ◌≢◌, ℕ, ◌<◌, ◌≤◌, Bool, true, false, if◌then◌else◌, refl, sym, ap, subst, ◌∙◌, arith, slice_get, Some}
 use Rattle.std.proofs.lemmas.Option.{get_or_from_slice_get}
 use Rattle.bdd_core.specs.declared.node.Node.{Node}
 use Rattle.bdd_core.specs.Diagram.{Diagram, no_node, IsRef, node_at, level_of, meaning, IsReduced, IsReducedNode}

@@ -1,7 +1,7 @@
 -- What the calls of an arena promise.
-use Rattle.std.specs.Prelude.{◌≡◌, ◌≢◌, ℕ, ◌<◌, ◌≤◌, ◌⊎◌, Bool, false, ◌&&◌, ◌==◌, List, if◌then◌else◌, length, slice_index_or}
+use Rattle.std.specs.Prelude.{◌≡◌, ℕ, ◌≤◌, Bool, false, ◌&&◌, ◌==◌, List, if◌then◌else◌, length, slice_index_or}
 use Rattle.bdd_core.specs.declared.branch.Branch.{Branch}
-use Rattle.bdd_core.specs.Diagram.{Diagram, IsRef, node_at, level_of, meaning, IsReducedNode}
+use Rattle.bdd_core.specs.Diagram.{Diagram, IsRef, node_at, meaning, IsReducedNode}
 use Rattle.bdd_core.specs.Reach.{Reaches}
 
 -- every earlier place is still one, of the same node and with the same function
@@ -32,7 +32,8 @@ IsConstant d f = (value : Bool) × ((values : ℕ → Bool) → meaning d f valu
 pub record IsBranch (d : Diagram) (f : ℕ) (branch : Branch) : Type 0 where
   pub node : node_at d f ≡ record { level = branch.level; low = branch.low; high = branch.high }
   pub reduced : IsReducedNode d f (node_at d f)
-  pub means : (values : ℕ → Bool) → meaning d f values ≡ meaning d (if values branch.level then branch.high else branch.low) values
+  pub means : (values : ℕ → Bool) → meaning d f values
+      ≡ meaning d (if values branch.level then branch.high else branch.low) values
 
 -- the place k of new has the conjunction of two functions: of a place that f reached in old, and of one that g did
 pub record IsConjunction (old new : Diagram) (f g k : ℕ) : Type 0 where

@@ -2,7 +2,8 @@
 use Rattle.std.specs.Prelude.{◌≡◌, ◌≢◌, ℕ, zero, suc, ◌<◌, ◌≤◌, ◌↔◌, Bool, true, false, List, if◌then◌else◌, length, slice_index_or}
 use Rattle.bdd_core.specs.declared.node.Node.{Node}
 
--- an arena: how many levels it has, and its nodes in the order of their places; the first two are the constants false and true
+-- an arena: how many levels it has, and its nodes in the order of their places; the first two are the constants false
+-- and true
 pub record Diagram : Type 0 where
   pub levels : ℕ
   pub nodes : List Node

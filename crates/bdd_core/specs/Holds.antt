@@ -1,5 +1,5 @@
 -- What always holds of an arena.
-use Rattle.std.specs.Prelude.{◌≡◌, ℕ, ◌^◌, ◌≤◌, ◌==◌, List, length, Contains}
+use Rattle.std.specs.Prelude.{◌^◌, ◌≤◌, ◌==◌, List, length, Contains}
 use Rattle.bdd_core.specs.declared.computed.Kept.{Kept}
 use Rattle.bdd_core.specs.Diagram.{Diagram, IsRef, IsReduced}
 use Rattle.bdd_core.specs.Steps.{IsChoice, IsCut}

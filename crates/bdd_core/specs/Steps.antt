@@ -39,12 +39,14 @@ pub record IsChildren (d : Diagram) (f level low high : ℕ) : Type 0 where
   pub high_falls : level_of d f ≡ level → high < f
   pub low_level : level < level_of d low
   pub high_level : level < level_of d high
-  pub means : (values : ℕ → Bool) → meaning d f values ≡ (if values level then meaning d high values else meaning d low values)
+  pub means : (values : ℕ → Bool) → meaning d f values
+      ≡ (if values level then meaning d high values else meaning d low values)
 
 -- r is high where the level is true, and else low
 pub record IsNode (d : Diagram) (level low high r : ℕ) : Type 0 where
   pub is_ref : IsRef d r
-  pub means : (values : ℕ → Bool) → meaning d r values ≡ (if values level then meaning d high values else meaning d low values)
+  pub means : (values : ℕ → Bool) → meaning d r values
+      ≡ (if values level then meaning d high values else meaning d low values)
   pub level_most : level ≤ level_of d r
 
 -- r is f where a level has a value
@@ -57,7 +59,8 @@ pub record IsCut (d : Diagram) (f level : ℕ) (value : Bool) (r : ℕ) : Type 0
 abbrev pub GainsOnly : List Kept → List Kept → Kept → Type 0
 GainsOnly old new more = (kept : Kept) → Contains new kept → (Contains old kept) ⊎ (kept ≡ more)
 
--- an empty slot, which is right of each table: `if false then false else false` is false, and so is false with level 0 false
+-- an empty slot, which is right of each table: `if false then false else false` is false, and so is false where level 0
+-- is false
 abbrev pub blank : Kept
 blank = record { f = 0; g = 0; h = 0; answer = 0 }
 

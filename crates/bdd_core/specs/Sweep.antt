@@ -12,7 +12,9 @@ pub record Swept (d : Diagram) (f at : ℕ) (seen : List Bool) (count : ℕ) : T
   pub only : (k : ℕ) → Contains places k → (at ≤ k) × Reaches d f k
   pub distinct : IsDistinct nat_eq places
   pub start : f < at → slice_index_or seen f false ≡ true
-  pub lows : (p : ℕ) → at ≤ p → Reaches d f p → 2 ≤ p → (node_at d p).low < at → slice_index_or seen (node_at d p).low false ≡ true
-  pub highs : (p : ℕ) → at ≤ p → Reaches d f p → 2 ≤ p → (node_at d p).high < at → slice_index_or seen (node_at d p).high false ≡ true
+  pub lows : (p : ℕ) → at ≤ p → Reaches d f p → 2 ≤ p → (node_at d p).low < at
+      → slice_index_or seen (node_at d p).low false ≡ true
+  pub highs : (p : ℕ) → at ≤ p → Reaches d f p → 2 ≤ p → (node_at d p).high < at
+      → slice_index_or seen (node_at d p).high false ≡ true
   pub marked : (k : ℕ) → slice_index_or seen k false ≡ true → (k < at) × Reaches d f k
   pub few : count + at ≤ f + 1

@@ -12,13 +12,14 @@ use crate::computed::Computed;
 use crate::node::{FALSE, Node, TRUE};
 use crate::reference::Ref;
 use indexmap::IndexSet;
-use rsml_syntax::NoMemory;
+use rsml_base::NoMemory;
 use std::alloc::Global;
 use std::marker::Model;
 
-/// Boolean functions of levels, each a node of a reduced ordered binary decision diagram. A call answers the handle of its
-/// function, and where memory is refused `NoMemory`; in both cases every earlier handle keeps its node and its function. No
-/// node is ever freed. Contracts see the arena as the number of its levels and the list of its nodes.
+/// Boolean functions of levels, each a node of a reduced ordered binary decision diagram. A call
+/// answers the handle of its function, and where memory is refused `NoMemory`; in both cases every
+/// earlier handle keeps its node and its function. No node is ever freed. Contracts see the arena
+/// as the number of its levels and the list of its nodes.
 #[derive(Drop)]
 pub struct Arena {
     levels: u32,
@@ -35,7 +36,8 @@ impl Model for Arena {
 
     ghost view = { λ a. record { levels = a.levels; nodes = a.nodes.keys } };
 
-    ghost invariant = { λ a. ArenaHolds (record { levels = a.levels; nodes = a.nodes.keys }) a.choices.slots.items a.cuts.slots.items };
+    ghost invariant = { λ a. ArenaHolds (record { levels = a.levels; nodes = a.nodes.keys })
+        a.choices.slots.items a.cuts.slots.items };
 }
 
 impl Arena {
@@ -66,6 +68,7 @@ impl Arena {
     pub fn constant(&self, value: bool) -> Ref
         ensures { Represents self.now (λ values. value) result }
     {
+        // To look at a field makes the invariant of the arena known to the proof.
         let _ = &self.levels;
         Ref::at(if value { TRUE } else { FALSE })
     }
@@ -88,8 +91,8 @@ impl Arena {
         f == Ref::at(TRUE)
     }
 
-    /// The laws of an arena, which a call of this function tells its caller: two handles are equal exactly where their
-    /// functions are, and the nodes are ordered and reduced. It does nothing.
+    /// The laws of an arena, which a call of this function tells its caller: two handles are equal
+    /// exactly where their functions are, and the nodes are ordered and reduced. It does nothing.
     pub fn laws(&self)
         ensures canonical { IsCanonical self.now }
         ensures reduced { IsReduced self.now }
@@ -98,7 +101,7 @@ impl Arena {
     }
 }
 
-// The node of a constant, whose place is its own child.
+/// The node of a constant, whose place is its own child.
 fn constant_node(levels: u32, place: u32) -> Node
     ensures { result ≡ record { level = levels; low = place; high = place } }
 {

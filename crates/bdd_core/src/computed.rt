@@ -20,10 +20,11 @@ const BLANK: Kept = Kept {
     answer: 0,
 };
 
-// How many slots a table begins with.
+/// How many slots a table begins with.
 const FIRST_SLOTS: usize = 4096;
 
-/// A computed table. An answer stands in the one slot of its question, and a later one may take its place.
+/// A computed table. An answer stands in the one slot of its question, and a later one may take its
+/// place.
 #[derive(Drop)]
 pub struct Computed {
     pub(crate) slots: Vec<Kept>,
@@ -42,7 +43,8 @@ impl Computed {
     /// The answer to a question, if it is kept.
     #[inline(always)]
     pub(crate) fn find(&self, f: u32, g: u32, h: u32) -> Option<u32>
-        ensures { IfSome result (λ answer. Contains self.now.slots.items (record { f = f; g = g; h = h; answer = answer })) }
+        ensures { IfSome result (λ answer.
+            Contains self.now.slots.items (record { f = f; g = g; h = h; answer = answer })) }
     {
         let kept = self.slots.get(slot_of(f, g, h, self.slots.len()))?;
         if kept.f == f && kept.g == g && kept.h == h {
@@ -64,7 +66,8 @@ impl Computed {
         }
     }
 
-    /// Gives the table more slots where it has fewer than there are nodes and there is memory for it. It keeps its answers.
+    /// Gives the table more slots where it has fewer than there are nodes and there is memory for
+    /// it. It keeps its answers.
     #[inline(always)]
     pub(crate) fn make_room(&mut self, nodes: usize)
         ensures { GainsOnly self.old.slots.items self.new.slots.items blank }
@@ -85,7 +88,8 @@ impl Computed {
         }
     }
 
-    // Copies each answer of the first slots to the slot that its question has now. What is left in the old slot is still right.
+    /// Copies each answer of the first slots to the slot that its question has now. What is left in
+    /// the old slot is still right.
     fn spread(&mut self, before: usize)
         ensures { GainsOnly self.old.slots.items self.new.slots.items blank }
     {
@@ -97,7 +101,7 @@ impl Computed {
     }
 }
 
-// The slot of a question, where the number of slots is a power of two. Any slot would do.
+/// The slot of a question, where the number of slots is a power of two. Any slot would do.
 #[inline(always)]
 fn slot_of(f: u32, g: u32, h: u32, slots: usize) -> usize {
     let x = (f as u64).wrapping_mul(0x9e37_79b9_7f4a_7c15);

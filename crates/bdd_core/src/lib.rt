@@ -12,6 +12,3 @@ pub use arena::Arena;
 pub use branch::Branch;
 pub use marks::Marks;
 pub use reference::Ref;
-
-#[cfg(test)]
-mod tests;

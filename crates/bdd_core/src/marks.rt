@@ -1,12 +1,12 @@
 ghost use Rattle.std.specs.Prelude.{◌≡◌, length, IfOk};
 
 use crate::arena::Arena;
-use rsml_syntax::NoMemory;
+use rsml_base::NoMemory;
 use std::alloc::Global;
 use std::marker::Model;
 
-/// Room to count the nodes that are reached from a handle, for the nodes that the arena had when the marks were made.
-/// Contracts see it as that number of nodes.
+/// Room to count the nodes that are reached from a handle, for the nodes that the arena had when
+/// the marks were made. Contracts see it as that number of nodes.
 #[derive(Drop)]
 pub struct Marks {
     pub(crate) seen: Vec<bool>,

@@ -3,7 +3,8 @@ pub(crate) const FALSE: u32 = 0;
 
 pub(crate) const TRUE: u32 = 1;
 
-/// A node: where its level is false it goes on with `low`, and where it is true with `high`. Both are places of nodes.
+/// A node: where its level is false it goes on with `low`, and where it is true with `high`. Both
+/// are places of nodes.
 #[derive(Clone, Copy, PartialEq, Eq, Hash)]
 pub struct Node {
     pub(crate) level: u32,

@@ -2,8 +2,8 @@ ghost use Rattle.std.specs.Prelude.{◌≡◌};
 
 use std::marker::Model;
 
-/// A handle of a Boolean function in the arena that gave it: the place of a node. In one arena equal functions have equal
-/// handles. It is used with that arena alone.
+/// A handle of a Boolean function in the arena that gave it: the place of a node. In one arena
+/// equal functions have equal handles. It is used with that arena alone.
 #[derive(Clone, Copy, PartialEq, Eq, Hash, Debug)]
 pub struct Ref {
     pub(crate) place: usize,

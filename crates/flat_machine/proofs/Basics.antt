@@ -3,7 +3,7 @@ use Rattle.std.proofs.Common.{◌≡◌, Bool, true, false, cond, ◌&&◌, ◌|
 use Rattle.std.specs.List.{list_any, list_all}
 use Rattle.std.specs.Cmp.{first_so, second_so}
 use Rattle.std.specs.Cmp.Lexicographic.{bytes_decides}
-use Rattle.rsml_syntax.specs.Names.{Name, same}
+use Rattle.rsml_syntax.specs.text.Names.{Name, same}
 use Rattle.rsml_meaning.specs.Words.{Each}
 
 -- TESTS

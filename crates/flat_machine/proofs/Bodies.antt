@@ -4,8 +4,8 @@ use Rattle.rsml_syntax.specs.declared.syntax.Bus.{Bus}
 use Rattle.rsml_syntax.specs.declared.syntax.Transition.{Transition}
 use Rattle.rsml_syntax.specs.declared.syntax.StateDecl.{StateDecl}
 use Rattle.rsml_syntax.specs.declared.syntax.Body.{One, All, items_hidden-the_row-StateDecl-0}
-use Rattle.rsml_syntax.specs.Names.{Name}
-use Rattle.rsml_syntax.specs.Parts.{children_of}
+use Rattle.rsml_syntax.specs.text.Names.{Name}
+use Rattle.rsml_syntax.specs.grammar.Parts.{children_of}
 
 pub children_of_one : (first : Name) (cs : List StateDecl) (bs : List Bus) (ts : List Transition) → children_of (One first cs bs ts) ≡ cs
 children_of_one first cs bs ts = items_hidden-the_row-StateDecl-0 cs

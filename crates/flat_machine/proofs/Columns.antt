@@ -3,7 +3,7 @@ use Rattle.std.proofs.Common.{◌≡◌, ℕ, zero, suc, ◌<◌, inl, inr, Bool
 use Rattle.std.specs.List.{list_any}
 use Rattle.std.proofs.lemmas.Bool.{cases_lt, or_left, or_right}
 use Rattle.std.proofs.lemmas.List.Folds.{list_any-append}
-use Rattle.rsml_syntax.specs.Tables.{below}
+use Rattle.rsml_syntax.specs.rules.Tables.{below}
 
 pub any_below : (test : ℕ → Bool) (n k : ℕ) → k < n → test k ≡ true → true ≡ list_any test (below n)
 any_below test zero k h e = absurd (omega arith)

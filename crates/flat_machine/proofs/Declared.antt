@@ -6,10 +6,10 @@ use Rattle.std.specs.Option.{option_map_or}
 use Rattle.std.specs.Cmp.{first_so, second_so}
 use Rattle.rsml_syntax.specs.declared.syntax.Decl.{Decl}
 use Rattle.rsml_syntax.specs.declared.syntax.Decl.TheVariants as decl
-use Rattle.rsml_syntax.specs.Names.{Name}
-use Rattle.rsml_syntax.specs.Globals.{Globals, Known, meaning, values_of}
+use Rattle.rsml_syntax.specs.text.Names.{Name}
+use Rattle.rsml_syntax.specs.rules.Globals.{Globals, Known, meaning, values_of}
 use Rattle.rsml_meaning.specs.Words.{Instance, at}
-use Rattle.rsml_syntax.specs.Thresholds.{type_ends}
+use Rattle.rsml_syntax.specs.limits.Thresholds.{type_ends}
 use Rattle.rsml_meaning.specs.Instances.{events_of}
 use Rattle.rsml_meaning.specs.Cells.{new_type, type_named, no_type, InputCell, cells_of}
 use Rattle.rsml_meaning.specs.Interfaces.{sends_of, functions_of}

@@ -11,9 +11,9 @@ use Rattle.rsml_syntax.specs.declared.syntax.Decl.{Decl}
 use Rattle.rsml_syntax.specs.declared.syntax.Transition.{Transition}
 use Rattle.rsml_syntax.specs.declared.syntax.Body.{Body}
 use Rattle.rsml_syntax.specs.declared.world.World.{World}
-use Rattle.rsml_syntax.specs.Names.{Name, same}
-use Rattle.rsml_syntax.specs.Globals.{Globals, globals}
-use Rattle.rsml_syntax.specs.Parts.{transitions_of}
+use Rattle.rsml_syntax.specs.text.Names.{Name, same}
+use Rattle.rsml_syntax.specs.rules.Globals.{Globals, globals}
+use Rattle.rsml_syntax.specs.grammar.Parts.{transitions_of}
 use Rattle.rsml_meaning.specs.Words.{at, first_some, child_path, is_prefix, is_proper_prefix, numbered, Each}
 use Rattle.rsml_meaning.specs.Instances.{Component, components}
 use Rattle.rsml_meaning.specs.Active.{active, leads_on}

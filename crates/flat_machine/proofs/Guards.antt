@@ -23,11 +23,11 @@ use Rattle.rsml_syntax.specs.declared.syntax.Row.{Row}
 use Rattle.rsml_syntax.specs.declared.syntax.Cell.TheVariants as cells
 use Rattle.rsml_syntax.specs.declared.syntax.Guard.{Guard}
 use Rattle.rsml_syntax.specs.declared.syntax.Guard.TheVariants as guards
-use Rattle.rsml_syntax.specs.Names.{Name, same}
-use Rattle.rsml_syntax.specs.Globals.{Globals, globals, Known, meaning, number, number_of}
-use Rattle.rsml_syntax.specs.Tables.{allows, column, width, below}
-use Rattle.rsml_syntax.specs.Comparisons.{Reading}
-use Rattle.rsml_syntax.specs.Uses.{is_input}
+use Rattle.rsml_syntax.specs.text.Names.{Name, same}
+use Rattle.rsml_syntax.specs.rules.Globals.{Globals, globals, Known, meaning, number, number_of}
+use Rattle.rsml_syntax.specs.rules.Tables.{allows, column, width, below}
+use Rattle.rsml_syntax.specs.limits.Comparisons.{Indices}
+use Rattle.rsml_syntax.specs.rules.Uses.{is_input}
 use Rattle.rsml_meaning.specs.Words.{at, same_instance, first_some}
 use Rattle.rsml_meaning.specs.Worlds.{held, is_cell}
 use Rattle.rsml_meaning.specs.Cells.{InputCell}
@@ -87,7 +87,7 @@ value_is_no_input (Some k) h e = h e
 
 -- In a view of these declarations, with these numbers of the inputs.
 module _ (decls : List Decl) (v : View) (names : v.names ≡ globals decls) (xs : List FlatInput) (ns : Numbers)
-    (numbers : (name : Name) → v.input (at name 0) ≡ pos (slice_index ns (input_place name xs))) (r : Reading) where
+    (numbers : (name : Name) → v.input (at name 0) ≡ pos (slice_index ns (input_place name xs))) (r : Indices) where
   abbrev g : Globals
   g = globals decls
 

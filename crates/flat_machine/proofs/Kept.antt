@@ -5,8 +5,8 @@ use Rattle.std.specs.List.{list_any}
 use Rattle.rsml_syntax.specs.declared.syntax.Decl.{Decl}
 use Rattle.rsml_syntax.specs.declared.syntax.Decl.TheVariants as decl
 use Rattle.rsml_syntax.specs.declared.syntax.Transition.{Transition}
-use Rattle.rsml_syntax.specs.Names.{Name, same}
-use Rattle.rsml_syntax.specs.Globals.{Globals}
+use Rattle.rsml_syntax.specs.text.Names.{Name, same}
+use Rattle.rsml_syntax.specs.rules.Globals.{Globals}
 use Rattle.rsml_meaning.specs.Words.{Instance, Path, at, same_instance, is_prefix, same_path, numbered, numbered_from, Each}
 use Rattle.rsml_meaning.specs.Transitions.{is_on, is_from}
 use Rattle.rsml_meaning.specs.Groups.{Group, state}

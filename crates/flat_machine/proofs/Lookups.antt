@@ -6,11 +6,11 @@ use Rattle.std.specs.Option.{option_map, option_map_or}
 use Rattle.rsml_syntax.specs.declared.syntax.Decl.{Decl}
 use Rattle.rsml_syntax.specs.declared.syntax.Decl.TheVariants as decl
 use Rattle.std.specs.Prelude.{⊤}
-use Rattle.rsml_syntax.specs.Uses.{is_input}
+use Rattle.rsml_syntax.specs.rules.Uses.{is_input}
 use Rattle.rsml_meaning.specs.Words.{Each}
 use Rattle.flat_machine.proofs.Basics.{differ, each_append}
-use Rattle.rsml_syntax.specs.Names.{Name, same, place_of}
-use Rattle.rsml_syntax.specs.Globals.{Known, globals, meaning, name_of, values_of, known_by, names_of, known_values}
+use Rattle.rsml_syntax.specs.text.Names.{Name, same, place_of}
+use Rattle.rsml_syntax.specs.rules.Globals.{Known, globals, meaning, name_of, values_of, known_by, names_of, known_values}
 
 -- the item beside the first name that passes
 abbrev seek : {A B : Type 0} → (A → Bool) → List A → List B → Option B

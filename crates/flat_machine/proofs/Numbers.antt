@@ -4,7 +4,7 @@ use Rattle.std.specs.Prelude.{ℤ, pos, negsuc, int_le}
 use Rattle.std.specs.Cmp.{first_so, second_so}
 use Rattle.std.specs.Cmp.Lexicographic.{pointwise}
 use Rattle.std.proofs.lemmas.Bool.{leb-true, le-leb}
-use Rattle.rsml_syntax.specs.Names.{Name}
+use Rattle.rsml_syntax.specs.text.Names.{Name}
 use Rattle.rsml_meaning.specs.Cells.{InputCell, is_of}
 use Rattle.flat_machine.specs.Flat.{is_nil}
 use Rattle.flat_machine.specs.Machine.{Numbers, FlatInput}

@@ -7,9 +7,9 @@ use Rattle.std.proofs.lemmas.Bool.{eqb-true, eq-eqb, both_ways, not-true}
 use Rattle.rsml_syntax.specs.declared.syntax.Decl.{Decl}
 use Rattle.rsml_syntax.specs.declared.syntax.Body.{Body}
 use Rattle.rsml_syntax.specs.declared.syntax.Spec.{Spec}
-use Rattle.rsml_syntax.specs.Names.{Name, same}
-use Rattle.rsml_syntax.specs.Globals.{globals}
-use Rattle.rsml_syntax.specs.Parts.{transitions_of}
+use Rattle.rsml_syntax.specs.text.Names.{Name, same}
+use Rattle.rsml_syntax.specs.rules.Globals.{globals}
+use Rattle.rsml_syntax.specs.grammar.Parts.{transitions_of}
 use Rattle.rsml_meaning.specs.Words.{Instance, same_instance, has, numbered, Each}
 use Rattle.rsml_meaning.specs.Instances.{events}
 use Rattle.rsml_meaning.specs.Transitions.{is_on}

@@ -10,7 +10,7 @@ use Rattle.std.specs.declared.cmp.Ordering.TheVariants.{Less, Equal, Greater}
 use Rattle.std.proofs.lemmas.Bool.{ltb-true, ltb-false, le-ltb}
 use Rattle.rsml_syntax.specs.declared.syntax.StateDecl.{StateDecl}
 use Rattle.rsml_syntax.specs.declared.world.World.{World}
-use Rattle.rsml_syntax.specs.Names.{Name, same}
+use Rattle.rsml_syntax.specs.text.Names.{Name, same}
 use Rattle.rsml_meaning.specs.Worlds.{IsBefore}
 use Rattle.flat_machine.specs.Machine.{Numbers}
 use Rattle.flat_machine.specs.Search.{AreNumbers, AreBefore}

@@ -21,14 +21,14 @@ use Rattle.rsml_syntax.specs.declared.syntax.Guard.{Guard}
 use Rattle.rsml_syntax.specs.declared.syntax.Guard.TheVariants as guards
 use Rattle.rsml_syntax.specs.declared.syntax.Transition.{Transition}
 use Rattle.rsml_syntax.specs.declared.syntax.Body.{Body, Basic, One', All', Row_of-StateDecl, end_of-StateDecl, more_of-StateDecl, items-the_row-StateDecl}
-use Rattle.rsml_syntax.specs.Names.{Name}
-use Rattle.rsml_syntax.specs.Globals.{Globals}
+use Rattle.rsml_syntax.specs.text.Names.{Name}
+use Rattle.rsml_syntax.specs.rules.Globals.{Globals}
 use Rattle.rsml_syntax.specs.declared.syntax.Amount.{Amount}
-use Rattle.rsml_syntax.specs.Parts.{Part, Opens, Closes, declared, inside, row_parts, placed, nearer, top_of, transitions_of, children_of, buses_of}
-use Rattle.rsml_syntax.specs.Names.{is_in}
-use Rattle.rsml_syntax.specs.Globals.{names_of}
-use Rattle.rsml_syntax.specs.Written.{simple_of, sums_in, sums_of_row, sums_of_guard, guards_of, sums_of}
-use Rattle.rsml_syntax.specs.Previous.{sums_of_part, is_previous, names_previous}
+use Rattle.rsml_syntax.specs.grammar.Parts.{Part, Opens, Closes, declared, inside, row_parts, placed, nearer, top_of, transitions_of, children_of, buses_of}
+use Rattle.rsml_syntax.specs.text.Names.{is_in}
+use Rattle.rsml_syntax.specs.rules.Globals.{names_of}
+use Rattle.rsml_syntax.specs.grammar.Written.{simple_of, sums_in, sums_of_row, sums_of_guard, guards_of, sums_of}
+use Rattle.rsml_syntax.specs.limits.Previous.{sums_of_part, is_previous, names_previous}
 use Rattle.flat_machine.specs.Flat.{plain, plain_terms, plain_operand, is_input_sum, is_value_sum, names_input, names_value, is_flat_simple, is_flat_phrase, are_flat_rows, is_flat_guard, is_flat_transition, are_flat_transitions, is_flat_decl, are_flat_decls, is_flat_child, are_flat_children, is_flat_body, is_flat_target, is_nil, is_all}
 use Rattle.flat_machine.proofs.Basics.{differ}
 

@@ -8,9 +8,9 @@ use Rattle.rsml_syntax.specs.declared.syntax.Transition.{Transition}
 use Rattle.rsml_syntax.specs.declared.syntax.StateDecl.{StateDecl}
 use Rattle.rsml_syntax.specs.declared.syntax.Body.{Body}
 use Rattle.rsml_syntax.specs.declared.syntax.Spec.{Spec}
-use Rattle.rsml_syntax.specs.Names.{Name, same}
-use Rattle.rsml_syntax.specs.Globals.{Globals, globals}
-use Rattle.rsml_syntax.specs.Parts.{children_of, transitions_of}
+use Rattle.rsml_syntax.specs.text.Names.{Name, same}
+use Rattle.rsml_syntax.specs.rules.Globals.{Globals, globals}
+use Rattle.rsml_syntax.specs.grammar.Parts.{children_of, transitions_of}
 use Rattle.rsml_meaning.specs.Words.{Path, numbered, Each}
 use Rattle.rsml_meaning.specs.Instances.{State}
 use Rattle.rsml_meaning.specs.Transitions.{is_from}

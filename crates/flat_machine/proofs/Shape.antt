@@ -14,10 +14,10 @@ use Rattle.rsml_syntax.specs.declared.syntax.Transition.{Transition}
 use Rattle.rsml_syntax.specs.declared.syntax.StateDecl.{StateDecl}
 use Rattle.rsml_syntax.specs.declared.syntax.Body.{Body, Basic, One', All', Row_of-StateDecl, end_of-StateDecl, more_of-StateDecl, items-the_row-StateDecl}
 use Rattle.rsml_syntax.specs.declared.world.World.{World}
-use Rattle.rsml_syntax.specs.Names.{Name}
-use Rattle.rsml_syntax.specs.Globals.{Globals, globals, indices}
-use Rattle.rsml_syntax.specs.Previous.{names_previous}
-use Rattle.rsml_syntax.specs.Parts.{children_of, transitions_of}
+use Rattle.rsml_syntax.specs.text.Names.{Name}
+use Rattle.rsml_syntax.specs.rules.Globals.{Globals, globals, indices}
+use Rattle.rsml_syntax.specs.limits.Previous.{names_previous}
+use Rattle.rsml_syntax.specs.grammar.Parts.{children_of, transitions_of}
 use Rattle.rsml_meaning.specs.Words.{Path, at, child_path, numbered, numbered_from}
 use Rattle.rsml_meaning.specs.Instances.{State, new_component, new_state, component_of, row_names, inside, row_inside, states, components, events}
 use Rattle.rsml_meaning.specs.Transitions.{TransitionInstance, sources, target_path, new_transition, transitions, transitions_of as instances_of}
@@ -37,7 +37,7 @@ child_at top name = at top 0 ∷ at name 0 ∷ []
 
 -- a basic child
 abbrev pub basic : Name → StateDecl → State
-basic top c = record { path = child_at top c.name; component = None }
+basic top c = record { path = child_at top c.name; body = Basic; component = None }
 
 child_inside : (g : Globals) (top : Name) (name : Name) (z : Option Amount) (b : Body) → is_flat_child (record { name = name; size = z; body = b }) ≡ true →
     flat_map (λ i. new_state b (child_path (top_path top) (at name i)) ∷ inside g b (child_path (top_path top) (at name i))) (indices g z) ≡ basic top (record { name = name; size = z; body = b }) ∷ []

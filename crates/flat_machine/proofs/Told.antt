@@ -9,9 +9,9 @@ use Rattle.rsml_syntax.specs.declared.syntax.Transition.{Transition}
 use Rattle.rsml_syntax.specs.declared.syntax.StateDecl.{StateDecl}
 use Rattle.rsml_syntax.specs.declared.syntax.Body.{Body}
 use Rattle.rsml_syntax.specs.declared.syntax.Spec.{Spec}
-use Rattle.rsml_syntax.specs.Names.{Name}
-use Rattle.rsml_syntax.specs.Globals.{Globals, globals}
-use Rattle.rsml_syntax.specs.Parts.{children_of, transitions_of}
+use Rattle.rsml_syntax.specs.text.Names.{Name}
+use Rattle.rsml_syntax.specs.rules.Globals.{Globals, globals}
+use Rattle.rsml_syntax.specs.grammar.Parts.{children_of, transitions_of}
 use Rattle.rsml_meaning.specs.Words.{at, child_path, Each}
 use Rattle.rsml_meaning.specs.Cells.{InputCell, own_cells}
 use Rattle.rsml_meaning.specs.Texts.{Text, text_line, instance_text, path_text, value_text, action_text, label}

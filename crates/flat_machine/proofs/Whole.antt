@@ -13,9 +13,9 @@ use Rattle.rsml_syntax.specs.declared.syntax.Index.{Index}
 use Rattle.rsml_syntax.specs.declared.syntax.StateDecl.{StateDecl}
 use Rattle.rsml_syntax.specs.declared.syntax.Body.{Body, Basic, One', All'}
 use Rattle.rsml_syntax.specs.declared.syntax.Spec.{Spec}
-use Rattle.rsml_syntax.specs.Names.{Name, same}
-use Rattle.rsml_syntax.specs.Globals.{Globals, globals}
-use Rattle.rsml_syntax.specs.Parts.{children_of}
+use Rattle.rsml_syntax.specs.text.Names.{Name, same}
+use Rattle.rsml_syntax.specs.rules.Globals.{Globals, globals}
+use Rattle.rsml_syntax.specs.grammar.Parts.{children_of}
 use Rattle.rsml_meaning.specs.Words.{Instance, at, same_instance, Each}
 use Rattle.rsml_meaning.specs.Instances.{events, row_names, new_component}
 use Rattle.rsml_meaning.specs.Interfaces.{receives_of}

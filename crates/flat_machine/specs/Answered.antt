@@ -3,8 +3,8 @@ use Rattle.std.specs.Prelude.{ℕ, suc, Bool, false, List, [], ◌∷◌, map, z
 use Rattle.rsml_syntax.specs.declared.syntax.Spec.{Spec}
 use Rattle.rsml_syntax.specs.declared.syntax.StateDecl.{StateDecl}
 use Rattle.rsml_syntax.specs.declared.world.World.{World}
-use Rattle.rsml_syntax.specs.Names.{Name, same}
-use Rattle.rsml_syntax.specs.Parts.{children_of}
+use Rattle.rsml_syntax.specs.text.Names.{Name, same}
+use Rattle.rsml_syntax.specs.grammar.Parts.{children_of}
 use Rattle.rsml_meaning.specs.Words.{Instance}
 use Rattle.rsml_meaning.specs.Instances.{events}
 use Rattle.rsml_meaning.specs.Findings as findings
@@ -22,6 +22,7 @@ child_place name (c ∷ cs) = if same c.name name then 0 else suc (child_place n
 abbrev pub world_of : List StateDecl → Name → Numbers → World
 world_of children child ns = record { choices = child_place child children ∷ []; cells = map pos ns }
 
+-- a verdict, with its numbers as a world in which this child is active
 abbrev pub told_of : List StateDecl → Name → Verdict → findings.Verdict
 told_of children child verdicts.Sound = findings.sound
 told_of children child (verdicts.Missing ns) = findings.none (world_of children child ns.items)
@@ -31,15 +32,19 @@ told_of children child (verdicts.Double ns) = findings.two (world_of children ch
 abbrev pub told : List StateDecl → FlatGroup × Verdict → findings.Verdict
 told children x = told_of children x.0.child x.1
 
+-- each external event has the length 1
 abbrev pub one_long : Instance → Option ℕ
 one_long e = Some 1
 
+-- no event has a clash
 abbrev pub without_clash : Instance → Option ClashFound
 without_clash e = None
 
+-- no event loops
 abbrev pub without_loop : Instance → Bool
 without_loop e = false
 
+-- what the report tells of a specification, by the verdicts on its groups
 abbrev pub answers : Spec → List Verdict → Answers
 answers s vs = record {
   lengths = map one_long (externals s);

@@ -28,6 +28,7 @@ abbrev pub is_failure : Failure → ℕ → Bool
 is_failure failures.Missing count = count == 0
 is_failure failures.Double count = nat_le 2 count
 
+-- the group of these members fails in these values
 abbrev pub fails : Failure → List FlatMember → Numbers → Bool
 fails failure ms ns = is_failure failure (length (enabled_in ns ms))
 
@@ -50,6 +51,7 @@ IsFound sizes ms verdicts.Sound = (ns : Numbers) → AreNumbers sizes ns → len
 IsFound sizes ms (verdicts.Missing found) = IsLeastFrom failures.Missing ms sizes [] found.items
 IsFound sizes ms (verdicts.Double found) = Passes failures.Missing ms sizes [] × IsLeastFrom failures.Double ms sizes [] found.items
 
+-- this is found of a group
 abbrev pub IsFoundOf : List ℕ → FlatGroup → Verdict → Type 0
 IsFoundOf sizes g v = IsFound sizes g.members v
 

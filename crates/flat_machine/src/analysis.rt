@@ -1,6 +1,6 @@
 ghost use Rattle.std.specs.Prelude.{◌≡◌, ◌↔◌, IfOk, IsTrue};
 ghost use Rattle.std.specs.List.{AllZip};
-ghost use Rattle.rsml_syntax.specs.Parts as parts;
+ghost use Rattle.rsml_syntax.specs.grammar.Parts as parts;
 ghost use Rattle.rsml_meaning.specs.Findings.{IsVerdict};
 ghost use Rattle.rsml_meaning.specs.Groups as meaning;
 ghost use Rattle.rsml_meaning.specs.Report as told;
@@ -78,7 +78,7 @@ fn groups<'a>(
 
 /// What is found of each group of a flat specification, in order, by going through all of its
 /// worlds. It takes one call deep for each input, so the limits should be kept. The only error is
-/// want of memory.
+/// out of memory.
 pub fn verdicts(alloc: Global, spec: &Spec) -> Result<Vec<Verdict>, NoMemory>
     requires { IsTrue (flat.is_flat spec.now) }
     ensures found { IfOk result (λ v. search.AreFound spec.now v.items) }
@@ -91,7 +91,7 @@ pub fn verdicts(alloc: Global, spec: &Spec) -> Result<Vec<Verdict>, NoMemory>
 }
 
 /// The text of the report on a flat specification over what is found of its groups. Names are
-/// written byte for byte. The only error is want of memory.
+/// written byte for byte. The only error is out of memory.
 pub fn report_text(alloc: Global, spec: &Spec, verdicts: &[Verdict]) -> Result<Vec<u8>, NoMemory>
     requires flat { IsTrue (flat.is_flat spec.now) }
     requires found { search.AreFound spec.now verdicts.now }
@@ -118,7 +118,7 @@ pub fn report_text(alloc: Global, spec: &Spec, verdicts: &[Verdict]) -> Result<V
 }
 
 /// Analyses a flat specification by going through all of its worlds. It takes one call deep for each
-/// input, so the limits should be kept. The only error is want of memory.
+/// input, so the limits should be kept. The only error is out of memory.
 pub fn report(alloc: Global, spec: &Spec) -> Result<Report, NoMemory>
     requires { IsTrue (flat.is_flat spec.now) }
     ensures text { IfOk result (λ r. told.IsReport spec.now r.text.items) }

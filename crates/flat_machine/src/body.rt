@@ -1,5 +1,5 @@
 ghost use Rattle.std.specs.Prelude.{◌≡◌};
-ghost use Rattle.rsml_syntax.specs.Parts as parts;
+ghost use Rattle.rsml_syntax.specs.grammar.Parts as parts;
 ghost use Rattle.flat_machine.specs.Flat as spec;
 
 use rsml_syntax::{Body, Bus, StateDecl, Transition};

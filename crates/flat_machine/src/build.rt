@@ -1,7 +1,7 @@
 ghost use Rattle.std.specs.Prelude.{◌≡◌, ◌++◌, map, flat_map, IfOk, OnOk, option_to_list};
 ghost use Rattle.std.specs.Option.{option_copied, option_map};
-ghost use Rattle.rsml_syntax.specs.Globals as known;
-ghost use Rattle.rsml_syntax.specs.Parts as parts;
+ghost use Rattle.rsml_syntax.specs.rules.Globals as known;
+ghost use Rattle.rsml_syntax.specs.grammar.Parts as parts;
 ghost use Rattle.flat_machine.specs.Machine as machine;
 
 use crate::body::{children_of, transitions_of};

@@ -1,6 +1,6 @@
 ghost use Rattle.std.specs.Prelude.{◌≡◌, min, ◌^◌, ◌-◌, flat_map, ◌++◌};
 ghost use Rattle.std.specs.Option.{option_copied};
-ghost use Rattle.rsml_syntax.specs.Globals as known;
+ghost use Rattle.rsml_syntax.specs.rules.Globals as known;
 ghost use Rattle.flat_machine.specs.Flat as flat;
 
 use crate::body::{buses_of, children_of, choices, is_all, transitions_of};
@@ -13,11 +13,7 @@ use rsml_syntax::{
 /// The greatest number of worlds of a flat specification.
 const MOST_WORLDS: usize = 65536;
 
-/// Whether a specification is flat: a basic state, or a `one` state of basic children without
-/// buses, over declarations without size of enumerations, inputs of enumerations, events and
-/// receives; no transition raises an event, each guard asks of inputs whether they have a value of
-/// an enumeration, and there are at most 65,536 worlds.
-
+/// Whether a declaration is one that a flat specification may have.
 fn is_flat_decl(decls: &[Decl], decl: &Decl) -> bool
     ensures { result ≡ flat.is_flat_decl (known.globals decls.now) decl.now }
 {
@@ -186,7 +182,6 @@ fn times_values(count: usize, decls: &[Decl], decl: &Decl) -> usize
 }
 
 /// As many choices times the numbers of values of all inputs, or the greatest `usize` where that is more.
-
 fn input_worlds(decls: &[Decl], choices: usize) -> usize
     ensures { result ≡ min (flat.product_from choices (flat_map (flat.sizes_of (known.globals decls.now)) decls.now)) (2 ^ 64 - 1) }
 {

@@ -12,8 +12,6 @@ mod machine;
 mod puts;
 mod result;
 mod search;
-#[cfg(test)]
-mod tests;
 mod text;
 mod truth;
 mod verdict;

@@ -1,7 +1,7 @@
 ghost use Rattle.std.specs.Prelude.{◌≡◌};
 ghost use Rattle.std.specs.Option.{option_copied};
-ghost use Rattle.rsml_syntax.specs.Globals as known;
-ghost use Rattle.rsml_syntax.specs.Names as list;
+ghost use Rattle.rsml_syntax.specs.rules.Globals as known;
+ghost use Rattle.rsml_syntax.specs.text.Names as list;
 ghost use Rattle.flat_machine.specs.Flat as spec;
 
 use rsml_syntax::{Decl, Text};
@@ -15,7 +15,7 @@ pub struct Known<'a> {
 }
 
 impl<'a> Model for Known<'a> {
-    ghost use Rattle.rsml_syntax.specs.Globals.{Known as GlobalName};
+    ghost use Rattle.rsml_syntax.specs.rules.Globals.{Known as GlobalName};
 
     ghost Value = { GlobalName };
 

@@ -1,5 +1,5 @@
 ghost use Rattle.std.specs.Prelude.{◌≡◌, ◌==◌, slice_index, slice_index_or, length};
-ghost use Rattle.rsml_syntax.specs.Tables as tables;
+ghost use Rattle.rsml_syntax.specs.rules.Tables as tables;
 ghost use Rattle.rsml_syntax.specs.declared.syntax.Cell.TheVariants as cells;
 ghost use Rattle.flat_machine.specs.Machine as machine;
 

@@ -4,8 +4,8 @@ use Rattle.std.specs.List.{AllZip, position_from}
 use Rattle.std.specs.Option.{option_map_or}
 use Rattle.rsml_syntax.specs.declared.syntax.Decl.{Decl}
 use Rattle.rsml_syntax.specs.declared.syntax.Decl.TheVariants as decl
-use Rattle.rsml_syntax.specs.Names.{Name, same, place_of}
-use Rattle.rsml_syntax.specs.Globals.{Known, globals, name_of, names_of, values_of, known_values, known_by, meaning, up_to}
+use Rattle.rsml_syntax.specs.text.Names.{Name, same, place_of}
+use Rattle.rsml_syntax.specs.rules.Globals.{Known, globals, name_of, names_of, values_of, known_values, known_by, meaning, up_to}
 use Rattle.rsml_meaning.specs.Words.{IsOne}
 use Rattle.rsml_meaning.proofs.Same.{name_same}
 use Rattle.one_run.proofs.Lists.{one_front, one_back}

@@ -6,8 +6,8 @@ use Rattle.rsml_syntax.specs.declared.syntax.Spec.{Spec}
 use Rattle.rsml_syntax.specs.declared.syntax.Decl.{Decl}
 use Rattle.rsml_syntax.specs.declared.syntax.Decl.TheVariants as decl
 use Rattle.rsml_syntax.specs.declared.world.World.{World}
-use Rattle.rsml_syntax.specs.Names.{is_in}
-use Rattle.rsml_syntax.specs.Previous.{names_previous}
+use Rattle.rsml_syntax.specs.text.Names.{is_in}
+use Rattle.rsml_syntax.specs.limits.Previous.{names_previous}
 use Rattle.rsml_meaning.specs.Words.{Each, IsOne, Instance, same_instance, has, first_some}
 use Rattle.rsml_meaning.specs.Instances.{Component, components, globals_of, instances}
 use Rattle.rsml_meaning.specs.Cells.{InputCell, cells, own_cells, previous_cells, cells_of, as_previous, new_cell, type_named, initial_number, input_type, is_of}
@@ -23,9 +23,9 @@ use Rattle.one_run.proofs.Messages.{IsTold, IsFit}
 
 -- The first world.
 
-default_choices : (cs : List Component) → Each (λ c. IsTrue (is_in c.first c.children)) cs → pointwise is_choice cs (map (λ c. child_place c c.first) cs) ≡ true
+default_choices : (cs : List Component) → Each (λ c. IsTrue (is_in c.default c.children)) cs → pointwise is_choice cs (map (λ c. child_place c c.default) cs) ≡ true
 default_choices [] h = refl
-default_choices (c ∷ cs) h = both (is_choice c (child_place c c.first)) (pointwise is_choice cs (map (λ c. child_place c c.first) cs)) (is_child c c.first (has_children c.first c.children h.0)) (default_choices cs h.1)
+default_choices (c ∷ cs) h = both (is_choice c (child_place c c.default)) (pointwise is_choice cs (map (λ c. child_place c c.default) cs)) (is_child c c.default (has_children c.default c.children h.0)) (default_choices cs h.1)
 
 abbrev fits : InputCell → ℤ → Bool
 fits c n = is_of c.numbers n

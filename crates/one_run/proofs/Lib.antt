@@ -9,12 +9,12 @@ mod Longer
 mod Lowest
 mod Messages
 mod MicroSteps
-mod Paths
 mod Runs
 mod Sends
 mod Sources
 mod Steps
 mod Turns
 mod Values
+mod Verdict
 mod Worlds
 mod rules

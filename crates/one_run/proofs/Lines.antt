@@ -7,15 +7,16 @@ use Rattle.rsml_syntax.specs.declared.world.World.{World}
 use Rattle.rsml_meaning.specs.Words.{Each, IsOne, Instance, same_instance, has, is_prefix, on_one_line}
 use Rattle.rsml_meaning.specs.Worlds.{IsWorld}
 use Rattle.rsml_meaning.specs.Truth.{View, view}
-use Rattle.rsml_meaning.specs.Transitions.{TransitionInstance, transitions, is_on, is_enabled}
+use Rattle.rsml_meaning.specs.Transitions.{TransitionInstance, transitions, is_on, is_enabled, line}
+use Rattle.rsml_meaning.specs.Groups.{transition, enabled}
 use Rattle.rsml_meaning.specs.Chains.{Ends, meet_in_a_send}
 use Rattle.rsml_meaning.specs.Certified.{Certified}
 use Rattle.rsml_meaning.specs.Steps.{enabled_transitions}
 use Rattle.rsml_meaning.proofs.Same.{instance_same, instance_itself}
 use Rattle.one_run.specs.Scoped.{WellScoped}
 use Rattle.one_run.specs.MicroSteps.{NoTwoOnALine}
-use Rattle.one_run.proofs.Lists.{both, or_left, or_cases, is_false, each_one, each_ones, each_more, each_filter, any_one, any_some, Two, two_one, two_counted, filter_twice}
-use Rattle.one_run.proofs.Paths.{prefix_self, prefix_then}
+use Rattle.one_run.proofs.Lists.{both, or_left, or_cases, is_false, each_one, each_ones, each_more, each_filter, any_one, any_some, Two, two_one, two_counted, many_map, filter_twice}
+use Rattle.rsml_meaning.proofs.Prefixes.{prefix_self, prefix_then}
 use Rattle.one_run.proofs.Sources.{source_active}
 use Rattle.one_run.proofs.Lowest.{lowest_line, lowest_lines_enable_one}
 
@@ -41,7 +42,7 @@ module _ (s : Spec) (w : World) (scoped : WellScoped s) (cert : Certified s) (is
       let more = two_counted (λ z. on_line z && is_enabled v z) ts t u two
       (both (on_line t) (is_enabled v t) (both (is_on e t) (is_prefix t.source l.0) ot (prefix_then t.source low.source l.0 pt l.2)) et)
       (both (on_line u) (is_enabled v u) (both (is_on e u) (is_prefix u.source l.0) ou (prefix_then u.source low.source l.0 pu l.2)) eu) in
-      let one = lowest_lines_enable_one s w l.0 e cert is_world l.1 in
+      let one = sym (many_map transition (enabled v) (line s e l.0)) ∙ lowest_lines_enable_one s w l.0 e scoped cert is_world l.1 in
       let twice = filter_twice on_line (is_enabled v) ts in
       two_not_one (subst (λ n. 2 ≤ n) (sym (ap length twice) ∙ one) more)
     where

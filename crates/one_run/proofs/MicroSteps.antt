@@ -9,7 +9,7 @@ use Rattle.rsml_syntax.specs.declared.syntax.Value.{Value}
 use Rattle.rsml_syntax.specs.declared.syntax.Value.TheVariants as values
 use Rattle.rsml_syntax.specs.declared.syntax.Answer.{Answer}
 use Rattle.rsml_syntax.specs.declared.syntax.Answer.TheVariants as answers
-use Rattle.rsml_syntax.specs.Comparisons.{Reading}
+use Rattle.rsml_syntax.specs.limits.Comparisons.{Indices}
 use Rattle.rsml_meaning.specs.Words.{Each, IsOne, AllThree, Instance, has}
 use Rattle.rsml_meaning.specs.Instances.{components, globals_of}
 use Rattle.rsml_meaning.specs.Truth.{View, view, learn, bare, within, instance, Gives}
@@ -44,13 +44,13 @@ module _ (s : Spec) (w : World) (scoped : WellScoped s) (one : FunctionsHaveOneV
   abbrev v : View
   v = view s w
 
-  same_value : (r : Reading) (x : Value) (a b : ℤ) → ValueIsScoped s r x → IsValue v r x a → IsValue v r x b → a ≡ b
+  same_value : (r : Indices) (x : Value) (a b : ℤ) → ValueIsScoped s r x → IsValue v r x a → IsValue v r x b → a ≡ b
   same_value r (values.Sum x) a b p h j = h ∙ sym j
   same_value r (values.Function m) a b p h j =
       let named = ap (λ g. instance g r m) (view_names s w) ∙ sym p.2 in
       one p.0 p.1 a b (subst (λ z. Gives v z a) named h) (subst (λ z. Gives v z b) named j)
 
-  same_list : (r : Reading) (xs : List Value) (ns ms : List ℤ) → Each (ValueIsScoped s r) xs → AllZip (IsValue v r) xs ns → AllZip (IsValue v r) xs ms → ns ≡ ms
+  same_list : (r : Indices) (xs : List Value) (ns ms : List ℤ) → Each (ValueIsScoped s r) xs → AllZip (IsValue v r) xs ns → AllZip (IsValue v r) xs ms → ns ≡ ms
   same_list r [] [] [] p h j = refl
   same_list r (x ∷ xs) (a ∷ ns) (b ∷ ms) p h j = λ t. same_value r x a b p.0 h.0 j.0 t ∷ same_list r xs ns ms p.1 h.1 j.1 t
   same_list r [] [] (b ∷ ms) p h j = elim j [ ]
@@ -58,7 +58,7 @@ module _ (s : Spec) (w : World) (scoped : WellScoped s) (one : FunctionsHaveOneV
   same_list r (x ∷ xs) [] ms p h j = elim h [ ]
   same_list r (x ∷ xs) (a ∷ ns) [] p h j = elim j [ ]
 
-  same_answer : (r : Reading) (x : Answer) (ns ms : List ℤ) → AnswerIsScoped s r x → AreValues v r x ns → AreValues v r x ms → ns ≡ ms
+  same_answer : (r : Indices) (x : Answer) (ns ms : List ℤ) → AnswerIsScoped s r x → AreValues v r x ns → AreValues v r x ms → ns ≡ ms
   same_answer r answers.Quiet ns ms p h j = h ∙ sym j
   same_answer r (answers.Values xs) ns ms p h j = same_list r xs ns ms p h j
 

@@ -16,8 +16,11 @@ use Rattle.one_run.proofs.Steps.{steps_are_one, steps_are_short, step_leaves_wor
 use Rattle.one_run.proofs.Messages.{IsTold, all_told}
 use Rattle.one_run.proofs.Latched.{first_is_world, latched_is_world}
 
-abbrev same_reaction : (r q : Reaction) → r.receive ≡ q.receive → r.rounds ≡ q.rounds → r ≡ q
-same_reaction r q a b = λ t. record { receive = a t; rounds = b t }
+abbrev same_reaction : (r q : Reaction) → r.receive ≡ q.receive → r.rounds ≡ q.rounds → r.world ≡ q.world → r ≡ q
+same_reaction r q a b c = λ t. record { receive = a t; rounds = b t; world = c t }
+
+abbrev reaction : Message → StepResult → Reaction
+reaction m r = record { receive = m.receive.receive; rounds = r.rounds; world = r.world }
 
 module _ (s : Spec) (scoped : WellScoped s) (c : Certified s) where
   -- There is a run, and no other.
@@ -38,26 +41,26 @@ module _ (s : Spec) (scoped : WellScoped s) (c : Certified s) where
       let r = step.0 in
       let rest = one_run r.world ms (step_leaves_world s scoped (latched s w m) (m.receive.raised ∷ []) r.rounds r.world start step.1) t.1 in
       record {
-        run = record { receive = m.receive.receive; rounds = r.rounds } ∷ rest.run;
-        is = (refl, r.world, step.1, rest.is);
+        run = reaction m r ∷ rest.run;
+        is = (record { receive = refl; step = step.1 }, rest.is);
         only = others r step.2 rest;
       }
     where
       others : (r : StepResult) → ((q : StepResult) → IsStepResult s (latched s w m) (m.receive.raised ∷ []) q → q ≡ r) → (rest : OneRun r.world ms)
-          → (qs : List Reaction) → IsRunFrom s w (m ∷ ms) qs → qs ≡ record { receive = m.receive.receive; rounds = r.rounds } ∷ rest.run
+          → (qs : List Reaction) → IsRunFrom s w (m ∷ ms) qs → qs ≡ reaction m r ∷ rest.run
       others r one rest [] h = elim h [ ]
       others r one rest (q ∷ qs) h =
-          let same = one (record { rounds = q.rounds; world = h.1 }) h.2 in
-          let first = same_reaction q (record { receive = m.receive.receive; rounds = r.rounds }) h.0 (ap (λ z. z.rounds) same) in
-          let later = rest.only qs (subst (λ z. IsRunFrom s z ms qs) (ap (λ z. z.world) same) h.3) in
+          let same = one (record { rounds = q.rounds; world = q.world }) h.0.step in
+          let first = same_reaction q (reaction m r) h.0.receive (ap (λ z. z.rounds) same) (ap (λ z. z.world) same) in
+          let later = rest.only qs (subst (λ z. IsRunFrom s z ms qs) (ap (λ z. z.world) same) h.1) in
           λ t. first t ∷ later t
 
 -- each step of a run ends in time
 in_time : (s : Spec) (w : World) (ms : List Message) (rs : List Reaction) → IsRunFrom s w ms rs → StepsEndInTime s ms rs
 in_time s w [] [] h = tt
 in_time s w (m ∷ ms) (r ∷ rs) h = (
-  λ n l. steps_are_short s (latched s w m) m.receive.raised n (record { rounds = r.rounds; world = h.1 }) l h.2,
-  in_time s h.1 ms rs h.3,
+  λ n l. steps_are_short s (latched s w m) m.receive.raised n (record { rounds = r.rounds; world = r.world }) l h.0.step,
+  in_time s r.world ms rs h.1,
 )
 in_time s w [] (r ∷ rs) h = elim h [ ]
 in_time s w (m ∷ ms) [] h = elim h [ ]
@@ -68,7 +71,7 @@ runs_end_in_time s lines rs h = in_time s (first_world s) (messages s lines) rs 
 pub lines_have_one_run : LinesHaveOneRun
 lines_have_one_run s lines scoped c =
     let r = one_run s scoped c (first_world s) (messages s lines) (first_is_world s scoped) (all_told s lines) in
-    (r.run, r.is, r.only)
+    record { run = r.run; is_run = r.is; only = r.only }
 
 pub event_files_have_one_run : EventFilesHaveOneRun
 event_files_have_one_run s limits scoped c content h = lines_have_one_run s (lines_of content) scoped c

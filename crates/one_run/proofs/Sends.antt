@@ -3,20 +3,37 @@ use Rattle.std.proofs.Common.{◌≡◌, ℕ, Bool, true, false, not, ◌&&◌, 
 use Rattle.std.specs.List.{list_any}
 use Rattle.std.specs.Cmp.{first_so, second_so}
 use Rattle.rsml_syntax.specs.declared.syntax.Spec.{Spec}
+use Rattle.rsml_syntax.specs.declared.syntax.Decl.{Decl}
+use Rattle.rsml_syntax.specs.declared.syntax.Decl.TheVariants as decl
 use Rattle.rsml_syntax.specs.declared.world.World.{World}
-use Rattle.rsml_meaning.specs.Words.{Each, IsOne, Instance, same_instance, has}
-use Rattle.rsml_meaning.specs.Instances.{State, states, events}
+use Rattle.rsml_syntax.specs.rules.Globals.{indices}
+use Rattle.rsml_meaning.specs.Words.{Each, IsOne, Instance, at, same_instance, has, numbered}
+use Rattle.rsml_meaning.specs.Instances.{State, states, events, globals_of}
 use Rattle.rsml_meaning.specs.Worlds.{IsWorld}
 use Rattle.rsml_meaning.specs.Truth.{View, view}
-use Rattle.rsml_meaning.specs.Interfaces.{SendCaseInstance, send_cases, sends, functions, is_sending, is_case}
-use Rattle.rsml_meaning.specs.Groups.{send, function, send_case, enabled, state_groups, send_groups, groups, Sound}
+use Rattle.rsml_meaning.specs.Interfaces.{SendCaseInstance, new_send_case, send_cases_of, send_cases, sends_of, sends, functions, is_sending, is_case}
+use Rattle.rsml_meaning.specs.Groups.{send, function, send_case, enabled, state_groups, send_groups, groups, enabled_count, Sound}
 use Rattle.rsml_meaning.specs.Chains.{Ends, meet_on_a_line}
 use Rattle.rsml_meaning.specs.Certified.{Certified}
 use Rattle.rsml_meaning.proofs.Same.{instance_same, instance_itself}
 use Rattle.one_run.specs.Scoped.{WellScoped, IsEvent}
 use Rattle.one_run.specs.MicroSteps.{is_asked, enabled_cases}
-use Rattle.one_run.proofs.Lists.{both, or_right, same_truth, each_one, one_map, one_filter, one_front, one_back, one_flat_map, any_one, any_some, many_map, filter_twice, filter_same}
+use Rattle.one_run.proofs.Lists.{both, or_right, same_truth, each_flat_map, each_map, each_one, one_map, one_filter, one_front, one_back, one_flat_map, any_one, any_some, many_map, filter_twice, filter_same}
 use Rattle.one_run.proofs.Lines.{present_ends}
+
+-- the send instance of a case is one
+abbrev IsOfSend : Spec → SendCaseInstance → Type 0
+IsOfSend s c = IsOne c.send (sends s)
+
+each_of_send : (s : Spec) → Each (IsOfSend s) (send_cases s)
+each_of_send s = each_flat_map (IsOfSend s) (send_cases_of (globals_of s)) s.decls of_decl
+  where
+    of_decl : (d : Decl) → IsOne d s.decls → Each (IsOfSend s) (send_cases_of (globals_of s) d)
+    of_decl (decl.Send name size fields cases) m =
+        each_flat_map (IsOfSend s) (λ i. map (new_send_case (globals_of s) name fields i) (numbered cases)) (indices (globals_of s) size)
+        (λ i k. each_map (IsOfSend s) (new_send_case (globals_of s) name fields i) (numbered cases)
+        (λ c. one_flat_map (sends_of (globals_of s)) s.decls (decl.Send name size fields cases) (at name i) m (one_map (at name) (indices (globals_of s) size) i k)))
+    of_decl _ m = tt
 
 module _ (s : Spec) (w : World) (scoped : WellScoped s) (cert : Certified s) (is_world : IsWorld s w) where
   abbrev v : View
@@ -31,6 +48,15 @@ module _ (s : Spec) (w : World) (scoped : WellScoped s) (cert : Certified s) (is
       (one_front (send c e) (flat_map (send_groups s) (sends s)) (map function (functions s))
       (one_flat_map (send_groups s) (sends s) c (send c e) m
       (one_map (send c) (filter (λ e. list_any (is_case c e) cs) (events s)) e (one_filter (λ e. list_any (is_case c e) cs) (events s) e k h))))
+
+  -- exactly one case of a send instance is enabled on the event of a case of it
+  one_of_event : (c e : Instance) → IsOne c (sends s) → IsEvent s e → list_any (is_case c e) cs ≡ true → enabled_count s (send c e) v ≡ 1
+  one_of_event c e m k h = each_one (Sound s) (groups s) (send c e) cert.sound (is_group c e m k h) w is_world refl
+
+  pub one_beside_case : (c : SendCaseInstance) → IsOne c cs → enabled_count s (send c.send c.event) v ≡ 1
+  one_beside_case c m =
+      one_of_event c.send c.event (each_one (IsOfSend s) cs c (each_of_send s) m) (each_one (λ (k : SendCaseInstance). IsEvent s k.event) cs c scoped.send_triggers m)
+      (any_one (is_case c.send c.event) cs c m (both (same_instance c.send c.send) (same_instance c.event c.event) (instance_itself c.send) (instance_itself c.event)))
 
   module _ (x : Instance) (n : ℕ) (present : List Instance) (ends : Each (Ends s x n) present) (c : Instance) where
     abbrev asked : SendCaseInstance → Bool
@@ -88,8 +114,7 @@ module _ (s : Spec) (w : World) (scoped : WellScoped s) (cert : Certified s) (is
         let d = a.0 in
         let e = d.event in
         let is_of = both (same_instance d.send c) (same_instance e e) (first_so (same_instance d.send c) (has present e) a.2) (instance_itself e) in
-        let group = is_group c e m (each_one (λ (k : SendCaseInstance). IsEvent s k.event) cs d scoped.send_triggers a.1) (any_one (is_case c e) cs d a.1 is_of) in
-        let one = each_one (Sound s) (groups s) (send c e) cert.sound group w is_world refl in
+        let one = one_of_event c e m (each_one (λ (k : SendCaseInstance). IsEvent s k.event) cs d scoped.send_triggers a.1) (any_one (is_case c e) cs d a.1 is_of) in
         ap length (filter_twice (λ k. has present k.event && is_sending v k) (λ k. same_instance k.send c) cs)
         ∙ ap length (filter_same counts (member d) cs (λ k mk. same_truth (counts k) (member d k) (counts_member d k a.1 mk a.2) (member_counts d k a.2)))
         ∙ sym (ap length (filter_twice (is_case c e) (is_sending v) cs))

@@ -8,15 +8,20 @@ use Rattle.rsml_syntax.specs.declared.world.World.{World}
 use Rattle.rsml_syntax.specs.declared.world.Step.{Step}
 use Rattle.rsml_syntax.specs.declared.syntax.Decl.{Decl}
 use Rattle.rsml_syntax.specs.declared.syntax.Decl.TheVariants as decl
-use Rattle.rsml_syntax.specs.Names.{Name}
+use Rattle.rsml_syntax.specs.text.Names.{Name}
 use Rattle.rsml_meaning.specs.Words.{Instance, Path, at, has, child_path, is_prefix, is_proper_prefix, on_one_line, numbered, Each, IsOne, AllThree}
 use Rattle.rsml_meaning.specs.Instances.{Component, components, globals_of}
 use Rattle.rsml_meaning.specs.Active.{active, chosen, leads_on}
 use Rattle.rsml_meaning.specs.Truth.{View, view, learn, bare, within, guard}
 use Rattle.rsml_meaning.specs.Transitions.{TransitionInstance, new_transition, transitions_of, transitions, sources, is_enabled}
 use Rattle.rsml_meaning.specs.Steps.{enabled_transitions}
-use Rattle.one_run.proofs.Lists.{each_flat_map, each_map, each_filter, each_more, list_all_one, or_left, or_right}
-use Rattle.one_run.proofs.Paths.{prefix_rest, proper_append, linear, head_or}
+use Rattle.one_run.specs.Turns.{IsActiveTransition}
+use Rattle.one_run.proofs.Lists.{each_flat_map, each_map, each_filter, each_more, each_ones, each_one, list_all_one, or_left, or_right}
+use Rattle.rsml_meaning.proofs.Prefixes.{prefix_rest, proper_append, linear}
+
+abbrev head_or : Step → Path → Step
+head_or x [] = x
+head_or x (y ∷ p) = y
 
 -- what an active path says of a component above it
 above : (cs : List (Component × ℕ)) (c : Component × ℕ) → IsOne c cs → (q : Path) → list_all (leads_on q) cs ≡ true → is_proper_prefix c.0.path q ≡ true → is_prefix (chosen c) q ≡ true
@@ -97,6 +102,9 @@ view_active s w = learned s.decls (bare s w)
 pub active_in_view : (s : Spec) (w : World) (path : Path) → active s w path ≡ true → (view s w).is_active path ≡ true
 active_in_view s w path h = subst (λ (f : Path → Bool). f path ≡ true) (sym (view_active s w)) h
 
+pub active_of_view : (s : Spec) (w : World) (path : Path) → (view s w).is_active path ≡ true → active s w path ≡ true
+active_of_view s w path h = subst (λ (f : Path → Bool). f path ≡ true) (view_active s w) h
+
 pub source_active : (s : Spec) (w : World) (t : TransitionInstance) → is_enabled (view s w) t ≡ true → (view s w).is_active t.source ≡ true
 source_active s w t h = first_so ((view s w).is_active t.source) (guard (view s w) (within t.this) t.guard) h
 
@@ -123,21 +131,25 @@ choice_of R [] ns ms h c m = absurd m
 choice_of R (x ∷ cs) [] ms h c m = elim h [ ]
 choice_of R (x ∷ cs) (n ∷ ns) [] h c m = elim h [ ]
 
+-- transitions with active sources
+pub each_active : (s : Spec) (w : World) (R : Component → ℕ → ℕ → Type 0) (ms : List ℕ) → AllThree R (components s) w.choices ms
+    → (ts : List TransitionInstance) → Each (IsActiveTransition s w) ts → Each (IsTaken (zip (components s) w.choices)) ts
+each_active s w R ms h ts are = each_more (IsActiveTransition s w) (IsTaken (zip (components s) w.choices)) is ts are
+  where
+    is : (t : TransitionInstance) → IsActiveTransition s w t → IsTaken (zip (components s) w.choices) t
+    is t a =
+        let o = each_one (IsOf s (components s)) (transitions s) t (each_transition s) a.among in
+        let n = choice_of R (components s) w.choices ms h o.c o.among in
+        record { c = (o.c, n.0); among = n.1; x = o.x; at_component = o.at_component; at_source = o.at_source; is_active = a.active }
+
+-- those that are taken have active sources
+enabled_active : (s : Spec) (w : World) (present : List Instance) → Each (IsActiveTransition s w) (enabled_transitions s (view s w) present)
+enabled_active s w present =
+    each_more (λ t. IsOne t (transitions s) × ((has present t.event && is_enabled (view s w) t) ≡ true)) (IsActiveTransition s w)
+    (λ t p. record { among = p.0; active = active_of_view s w t.source (source_active s w t (second_so (has present t.event) (is_enabled (view s w) t) p.1)) })
+    (enabled_transitions s (view s w) present)
+    (each_filter (λ t. IsOne t (transitions s)) (λ t. has present t.event && is_enabled (view s w) t) (transitions s) (each_ones (λ t. IsOne t (transitions s)) (transitions s) (λ t m. m)))
+
 pub each_taken : (s : Spec) (w : World) (present : List Instance) (R : Component → ℕ → ℕ → Type 0) (ms : List ℕ) → AllThree R (components s) w.choices ms
     → Each (IsTaken (zip (components s) w.choices)) (enabled_transitions s (view s w) present)
-each_taken s w present R ms h =
-    each_more (λ t. IsOf s (components s) t × ((has present t.event && is_enabled (view s w) t) ≡ true)) (IsTaken (zip (components s) w.choices)) is
-    (enabled_transitions s (view s w) present) (each_filter (IsOf s (components s)) (λ t. has present t.event && is_enabled (view s w) t) (transitions s) (each_transition s))
-  where
-    is : (t : TransitionInstance) → IsOf s (components s) t × ((has present t.event && is_enabled (view s w) t) ≡ true) → IsTaken (zip (components s) w.choices) t
-    is t p =
-        let o = p.0 in
-        let n = choice_of R (components s) w.choices ms h o.c o.among in
-        record {
-          c = (o.c, n.0);
-          among = n.1;
-          x = o.x;
-          at_component = o.at_component;
-          at_source = o.at_source;
-          is_active = subst (λ (f : Path → Bool). f t.source ≡ true) (view_active s w) (source_active s w t (second_so (has present t.event) (is_enabled (view s w) t) p.1));
-        }
+each_taken s w present R ms h = each_active s w R ms h (enabled_transitions s (view s w) present) (enabled_active s w present)

@@ -7,7 +7,7 @@ use Rattle.rsml_meaning.specs.Words.{Each, Instance, same_instance}
 use Rattle.rsml_meaning.specs.Worlds.{IsWorld}
 use Rattle.rsml_meaning.specs.Chains.{is_external, is_chain, linked, begins_with, IsLength, Ends}
 use Rattle.rsml_meaning.specs.Certified.{Certified}
-use Rattle.rsml_meaning.specs.Steps.{Micro, Sent, Round, IsStep}
+use Rattle.rsml_meaning.specs.Steps.{Micro, Sent, Round, IsRound, IsStep}
 use Rattle.rsml_meaning.specs.Transitions.{TransitionInstance}
 use Rattle.rsml_meaning.proofs.Same.{instance_same, instance_itself}
 use Rattle.rsml_meaning.proofs.Ways.{length_or_endless}
@@ -44,7 +44,7 @@ rounds_end s x l h n [] w v present ne e a = elim a [ ]
 rounds_end s x l h n (r ∷ []) w v [] ne e a = absurd (ne refl)
 rounds_end s x l h n (r ∷ []) w v (y ∷ present) ne e a = let m = h.most e.0.0 e.0.1 in omega (arith, m, e.0.2)
 rounds_end s x l h n (r ∷ q ∷ rs) w v present ne e a =
-    let rest = rounds_end s x l h (suc n) (q ∷ rs) a.1 v a.2 a.3 (next_longer s w x n present (result r.taken r.sent a.1 a.2) a.4 e) a.5 in
+    let rest = rounds_end s x l h (suc n) (q ∷ rs) a.0 v a.1 a.3 (next_longer s w x n present (result r.taken r.sent a.0 a.1) a.2.micro e) a.4 in
     omega (arith, rest)
 
 pub steps_are_short : StepsAreShort
@@ -62,33 +62,40 @@ module _ (s : Spec) (scoped : WellScoped s) (c : Certified s) (x : Instance) whe
       let one = (rounds_are_determinate s w x n present scoped c i h).result in
       one.2 r a ∙ sym (one.2 q b)
 
-  abbrev same_round : (r q : Round) → r.present ≡ q.present → r.taken ≡ q.taken → r.sent ≡ q.sent → r ≡ q
-  same_round r q a b d = λ t. record { present = a t; taken = b t; sent = d t }
+  -- rounds that begin in one world with the same present events, and come to the same
+  same_round : (w : World) (present : List Instance) (r q : Round) (v₁ v₂ : World) (raised₁ raised₂ : List Instance) → IsRound s w present r v₁ raised₁ → IsRound s w present q v₂ raised₂
+      → result r.taken r.sent v₁ raised₁ ≡ result q.taken q.sent v₂ raised₂ → r ≡ q
+  same_round w present r q v₁ v₂ raised₁ raised₂ a b m = λ t. record {
+    world = (a.world ∙ sym b.world) t;
+    present = (a.events ∙ sym b.events) t;
+    taken = ap (λ z. z.taken) m t;
+    sent = ap (λ z. z.sent) m t;
+  }
 
   pub one_step : (n : ℕ) (rs qs : List Round) (w : World) (present : List Instance) (v₁ v₂ : World) → IsWorld s w → Each (Ends s x n) present → IsStep s w present rs v₁ → IsStep s w present qs v₂ → (rs ≡ qs) × (v₁ ≡ v₂)
   one_step n [] qs w present v₁ v₂ i h a b = elim a [ ]
   one_step n (r ∷ []) [] w present v₁ v₂ i h a b = elim b [ ]
   one_step n (r ∷ r₂ ∷ rs) [] w present v₁ v₂ i h a b = elim b [ ]
   one_step n (r ∷ []) (q ∷ []) w present v₁ v₂ i h a b =
-      let m = same_micro n w present (result r.taken r.sent v₁ []) (result q.taken q.sent v₂ []) i h a.1 b.1 in
-      (λ t. same_round r q (a.0 ∙ sym b.0) (ap (λ z. z.taken) m) (ap (λ z. z.sent) m) t ∷ [], ap (λ z. z.world) m)
+      let m = same_micro n w present (result r.taken r.sent v₁ []) (result q.taken q.sent v₂ []) i h a.micro b.micro in
+      (λ t. same_round w present r q v₁ v₂ [] [] a b m t ∷ [], ap (λ z. z.world) m)
   one_step n (r ∷ []) (q ∷ q₂ ∷ qs) w present v₁ v₂ i h a b =
-      let m = same_micro n w present (result r.taken r.sent v₁ []) (result q.taken q.sent b.1 b.2) i h a.1 b.4 in
+      let m = same_micro n w present (result r.taken r.sent v₁ []) (result q.taken q.sent b.0 b.1) i h a.micro b.2.micro in
       absurd (b.3 (sym (ap (λ z. z.raised) m)))
   one_step n (r ∷ r₂ ∷ rs) (q ∷ []) w present v₁ v₂ i h a b =
-      let m = same_micro n w present (result r.taken r.sent a.1 a.2) (result q.taken q.sent v₂ []) i h a.4 b.1 in
+      let m = same_micro n w present (result r.taken r.sent a.0 a.1) (result q.taken q.sent v₂ []) i h a.2.micro b.micro in
       absurd (a.3 (ap (λ z. z.raised) m))
   one_step n (r ∷ r₂ ∷ rs) (q ∷ q₂ ∷ qs) w present v₁ v₂ i h a b =
-      let m = same_micro n w present (result r.taken r.sent a.1 a.2) (result q.taken q.sent b.1 b.2) i h a.4 b.4 in
-      let later : IsStep s a.1 a.2 (q₂ ∷ qs) v₂ =
-      subst (λ z. IsStep s z a.2 (q₂ ∷ qs) v₂) (sym (ap (λ z. z.world) m)) (subst (λ z. IsStep s b.1 z (q₂ ∷ qs) v₂) (sym (ap (λ z. z.raised) m)) b.5) in
-      let rest = one_step (suc n) (r₂ ∷ rs) (q₂ ∷ qs) a.1 a.2 v₁ v₂
-      (micro_steps_leave_worlds s w present (result r.taken r.sent a.1 a.2) scoped i a.4)
-      (next_longer s w x n present (result r.taken r.sent a.1 a.2) a.4 h) a.5 later in
-      (λ t. same_round r q (a.0 ∙ sym b.0) (ap (λ z. z.taken) m) (ap (λ z. z.sent) m) t ∷ rest.0 t, rest.1)
+      let m = same_micro n w present (result r.taken r.sent a.0 a.1) (result q.taken q.sent b.0 b.1) i h a.2.micro b.2.micro in
+      let later : IsStep s a.0 a.1 (q₂ ∷ qs) v₂ =
+      subst (λ z. IsStep s z a.1 (q₂ ∷ qs) v₂) (sym (ap (λ z. z.world) m)) (subst (λ z. IsStep s b.0 z (q₂ ∷ qs) v₂) (sym (ap (λ z. z.raised) m)) b.4) in
+      let rest = one_step (suc n) (r₂ ∷ rs) (q₂ ∷ qs) a.0 a.1 v₁ v₂
+      (micro_steps_leave_worlds s w present (result r.taken r.sent a.0 a.1) scoped i a.2.micro)
+      (next_longer s w x n present (result r.taken r.sent a.0 a.1) a.2.micro h) a.4 later in
+      (λ t. same_round w present r q a.0 b.0 a.1 b.1 a.2 b.2 m t ∷ rest.0 t, rest.1)
 
-  abbrev round : List Instance → Result → Round
-  round present m = record { present = present; taken = m.taken; sent = m.sent }
+  abbrev round : World → List Instance → Result → Round
+  round w present m = record { world = w; present = present; taken = m.taken; sent = m.sent }
 
   -- a micro-step that raises events, and a step on them
   then_step : (w : World) (present : List Instance) (m : Result) → IsResult s w present m → m.raised ≢ [] → (r : StepResult) → IsStepResult s m.world m.raised r → (q : StepResult) × IsStepResult s w present q
@@ -96,7 +103,7 @@ module _ (s : Spec) (scoped : WellScoped s) (c : Certified s) (x : Instance) whe
     where
       by_rounds : (rs : List Round) → IsStep s m.world m.raised rs r.world → (q : StepResult) × IsStepResult s w present q
       by_rounds [] b = elim b [ ]
-      by_rounds (q ∷ rs) b = (record { rounds = round present m ∷ q ∷ rs; world = r.world }, (refl, m.world, m.raised, ne, a, b))
+      by_rounds (q ∷ rs) b = (record { rounds = round w present m ∷ q ∷ rs; world = r.world }, (m.world, m.raised, record { world = refl; events = refl; micro = a }, ne, b))
 
   -- a step is there where at most k rounds are left
   there_is : (l : ℕ) → IsLength s x l → (k n : ℕ) (w : World) (present : List Instance) → present ≢ [] → l + 1 ≤ n + k → IsWorld s w → Each (Ends s x n) present → (r : StepResult) × IsStepResult s w present r
@@ -108,7 +115,7 @@ module _ (s : Spec) (scoped : WellScoped s) (c : Certified s) (x : Instance) whe
       by_raised m one.1 m.raised refl (λ more. there_is l h k (suc n) m.world m.raised more (omega (arith, le)) (micro_steps_leave_worlds s w present m scoped i one.1) (next_longer s w x n present m one.1 e))
     where
       by_raised : (m : Result) → IsResult s w present m → (raised : List Instance) → m.raised ≡ raised → (m.raised ≢ [] → (r : StepResult) × IsStepResult s m.world m.raised r) → (r : StepResult) × IsStepResult s w present r
-      by_raised m a [] q rest = (record { rounds = round present m ∷ []; world = m.world }, (refl, subst (Micro s w present m.taken m.sent m.world) q a))
+      by_raised m a [] q rest = (record { rounds = round w present m ∷ []; world = m.world }, record { world = refl; events = refl; micro = subst (Micro s w present m.taken m.sent m.world) q a })
       by_raised m a (f ∷ fs) q rest =
           let ne : m.raised ≢ [] = λ z. not_empty f fs (sym q ∙ z) in
           let r = rest ne in
@@ -123,6 +130,6 @@ steps_are_one s w x scoped c i h =
 -- a step leaves a world
 pub step_leaves_world : (s : Spec) → WellScoped s → (w : World) (present : List Instance) (rs : List Round) (v : World) → IsWorld s w → IsStep s w present rs v → IsWorld s v
 step_leaves_world s scoped w present [] v i a = elim a [ ]
-step_leaves_world s scoped w present (r ∷ []) v i a = micro_steps_leave_worlds s w present (result r.taken r.sent v []) scoped i a.1
+step_leaves_world s scoped w present (r ∷ []) v i a = micro_steps_leave_worlds s w present (result r.taken r.sent v []) scoped i a.micro
 step_leaves_world s scoped w present (r ∷ q ∷ rs) v i a =
-    step_leaves_world s scoped a.1 a.2 (q ∷ rs) v (micro_steps_leave_worlds s w present (result r.taken r.sent a.1 a.2) scoped i a.4) a.5
+    step_leaves_world s scoped a.0 a.1 (q ∷ rs) v (micro_steps_leave_worlds s w present (result r.taken r.sent a.0 a.1) scoped i a.2.micro) a.4

@@ -1,4 +1,4 @@
--- The transitions that are taken together can be entered one after another, in any order.
+-- Transitions with active sources, no two of which lie on one line, can be entered one after another, in any order.
 use Rattle.std.proofs.Common.{◌≡◌, ℕ, List, [], ◌∷◌, map, zip, fold, filter_map, Option, Some, None, unwrap_or, ◌⊎◌, inl, inr, refl, sym, ap, ◌∙◌, subst, IsPermutation}
 use Rattle.std.specs.List.{cons_option, AllByRecursion}
 use Rattle.std.proofs.lemmas.List.Sorted.{All-permutation, IsPermutation-sym}
@@ -9,12 +9,10 @@ use Rattle.rsml_meaning.specs.Instances.{Component, components}
 use Rattle.rsml_meaning.specs.Active.{enter, given}
 use Rattle.rsml_meaning.specs.Transitions.{TransitionInstance}
 use Rattle.rsml_meaning.specs.Steps.{given_by, or_kept, outcomes}
-use Rattle.one_run.specs.MicroSteps.{NoTwoOnALine}
 use Rattle.one_run.specs.Turns.{after_one, after_all}
 use Rattle.one_run.specs.Laws.{OrderDoesNotMatter}
-use Rattle.one_run.proofs.Sources.{IsTaken, each_taken}
+use Rattle.one_run.proofs.Sources.{each_active}
 use Rattle.one_run.proofs.Apart.{Gift, nothing, single, gift, only_one}
-use Rattle.one_run.proofs.Lines.{taken_apart}
 
 -- What a component gets in turn.
 
@@ -147,9 +145,8 @@ as_long R (c ∷ cs) [] ms h = elim h [ ]
 as_long R (c ∷ cs) (n ∷ ns) [] h = elim h [ ]
 
 pub order_does_not_matter : OrderDoesNotMatter
-order_does_not_matter s w x n present r ts scoped cert i ends m p =
+order_does_not_matter s w taken ts choices are apart p h =
     let cs = zip (components s) w.choices in
-    let apart = subst NoTwoOnALine (sym m.all_taken) (taken_apart s w scoped cert i x n present ends) in
-    let on = subst (Each (IsTaken cs)) (sym m.all_taken) (each_taken s w present (λ c old new. IsOne new (outcomes r.taken c old)) r.world.choices m.children) in
-    all_turns s ts w.choices (as_long (λ c old new. IsOne new (outcomes r.taken c old)) (components s) w.choices r.world.choices m.children)
-    ∙ all_places r.taken ts (λ c. gift cs c r.taken on apart) p (components s) w.choices r.world.choices m.children
+    let on = each_active s w (λ c old new. IsOne new (outcomes taken c old)) choices h taken are in
+    all_turns s ts w.choices (as_long (λ c old new. IsOne new (outcomes taken c old)) (components s) w.choices choices h)
+    ∙ all_places taken ts (λ c. gift cs c taken on apart) p (components s) w.choices choices h

@@ -6,23 +6,23 @@ use Rattle.rsml_syntax.specs.declared.syntax.Decl.{Decl}
 use Rattle.rsml_syntax.specs.declared.syntax.Decl.TheVariants as decl
 use Rattle.rsml_syntax.specs.declared.syntax.Amount.{Amount}
 use Rattle.rsml_syntax.specs.declared.syntax.Case.{Case}
-use Rattle.rsml_syntax.specs.Names.{Name}
-use Rattle.rsml_syntax.specs.Globals.{indices}
-use Rattle.rsml_syntax.specs.Comparisons.{Reading}
+use Rattle.rsml_syntax.specs.text.Names.{Name}
+use Rattle.rsml_syntax.specs.rules.Globals.{indices}
+use Rattle.rsml_syntax.specs.limits.Comparisons.{Indices}
 use Rattle.rsml_meaning.specs.Words.{Each, IsOne, at, numbered, numbered_from}
 use Rattle.rsml_meaning.specs.Instances.{State, states, globals_of}
 use Rattle.rsml_meaning.specs.Worlds.{IsWorld}
 use Rattle.rsml_meaning.specs.Truth.{View, view, within, guard, values_given, sum}
 use Rattle.rsml_meaning.specs.Interfaces.{FunctionInstance, functions, functions_of, new_function, sends}
-use Rattle.rsml_meaning.specs.Groups.{function, case, enabled, groups, Sound, state_groups, send_groups}
+use Rattle.rsml_meaning.specs.Groups.{function, case, enabled, groups, Sound, state_groups, send_groups, enabled_count}
 use Rattle.rsml_meaning.specs.Certified.{Certified}
 use Rattle.rsml_meaning.specs.InOrder.{IsInOrder}
 use Rattle.rsml_meaning.proofs.Stable.{functions_give_their_cases}
-use Rattle.one_run.specs.MicroSteps.{true_cases, FunctionsHaveOneValue}
+use Rattle.one_run.specs.MicroSteps.{FunctionsHaveOneValue}
 use Rattle.one_run.proofs.Lists.{each_flat_map, each_map, each_one, one_back, one_map, many, many_map}
 
 -- as many values as cases with a true guard
-as_many : (v : View) (r : Reading) (n : ℕ) (cases : List Case) → length (values_given v r cases) ≡ many (λ (c : ℕ × Case). guard v r c.1.guard) (numbered_from n cases)
+as_many : (v : View) (r : Indices) (n : ℕ) (cases : List Case) → length (values_given v r cases) ≡ many (λ (c : ℕ × Case). guard v r c.1.guard) (numbered_from n cases)
 as_many v r n [] = refl
 as_many v r n (c ∷ cases) = by_test (guard v r c.guard) (as_many v r (suc n) cases)
   where
@@ -49,11 +49,11 @@ each_function s = each_flat_map (IsDeclared s) (functions_of (globals_of s)) s.d
         (λ i. record { name = name; size = size; cases = cases; among = m; is = refl; are = refl })
     of_decl _ m = tt
 
-pub one_true_case : (s : Spec) (w : World) → Certified s → IsWorld s w → (f : FunctionInstance) → IsOne f (functions s) → true_cases (view s w) f ≡ 1
+pub one_true_case : (s : Spec) (w : World) → Certified s → IsWorld s w → (f : FunctionInstance) → IsOne f (functions s) → enabled_count s (function f) (view s w) ≡ 1
 one_true_case s w c i f m =
     let group = one_back (function f) (flat_map (λ (x : State). state_groups s x.path) (states s)) (flat_map (send_groups s) (sends s) ++ map function (functions s))
     (one_back (function f) (flat_map (send_groups s) (sends s)) (map function (functions s)) (one_map function (functions s) f m)) in
-    sym (many_map (case f.function) (enabled (view s w)) f.cases) ∙ each_one (Sound s) (groups s) (function f) c.sound group w i refl
+    each_one (Sound s) (groups s) (function f) c.sound group w i refl
 
 one_given : (s : Spec) (w : World) → Certified s → IsWorld s w → IsInOrder s → (f : FunctionInstance) → IsOne f (functions s) → length ((view s w).gives f.function) ≡ 1
 one_given s w c i o f m =
@@ -61,7 +61,7 @@ one_given s w c i o f m =
     let v = view s w in
     let r = within f.function.index in
     ap (λ z. length (v.gives z)) d.is ∙ ap length (functions_give_their_cases s w o d.name f.function.index d.size d.cases d.among) ∙ as_many v r 1 d.cases
-    ∙ ap (many (λ (c : ℕ × Case). guard v r c.1.guard)) (sym d.are) ∙ one_true_case s w c i f m
+    ∙ ap (many (λ (c : ℕ × Case). guard v r c.1.guard)) (sym d.are) ∙ sym (many_map (case f.function) (enabled v) f.cases) ∙ one_true_case s w c i f m
 
 zero_one : zero ≡ 1 → ⊥
 zero_one h = omega (arith, h)

@@ -5,7 +5,7 @@ use Rattle.std.specs.Cmp.{first_so, second_so}
 use Rattle.std.specs.Cmp.Lexicographic.{pointwise}
 use Rattle.rsml_syntax.specs.declared.syntax.Spec.{Spec}
 use Rattle.rsml_syntax.specs.declared.world.World.{World}
-use Rattle.rsml_syntax.specs.Names.{Name, same, place_of, is_in}
+use Rattle.rsml_syntax.specs.text.Names.{Name, same, place_of, is_in}
 use Rattle.rsml_meaning.specs.Words.{Each, IsOne, AllThree, Path, is_prefix}
 use Rattle.rsml_meaning.specs.Instances.{Component, components}
 use Rattle.rsml_meaning.specs.Cells.{cells, is_of}
@@ -95,7 +95,7 @@ outcome_cases n m [] (inr k) = absurd k
 outcome_cases n m (x ∷ xs) k = inr k
 
 abbrev HasChild : Component → Type 0
-HasChild c = IsTrue (is_in c.first c.children)
+HasChild c = IsTrue (is_in c.default c.children)
 
 children_stay : (ts : List TransitionInstance) (cs : List Component) (ns ms : List ℕ) → Each HasChild cs → pointwise is_choice cs ns ≡ true
     → AllThree (λ c old new. IsOne new (outcomes ts c old)) cs ns ms → pointwise is_choice cs ms ≡ true
@@ -104,7 +104,7 @@ children_stay ts (c ∷ cs) (n ∷ ns) (m ∷ ms) d h k =
     both (is_choice c m) (pointwise is_choice cs ms)
     (⊎_elim
     (λ e. subst (λ z. is_choice c z ≡ true) (sym e) (first_so (is_choice c n) (pointwise is_choice cs ns) h))
-    (λ l. given_cases (given_by c) (λ z. is_choice c z ≡ true) (λ t z e. given_is_child c t z (has_children c.first c.children d.0) e) ts m l)
+    (λ l. given_cases (given_by c) (λ z. is_choice c z ≡ true) (λ t z e. given_is_child c t z (has_children c.default c.children d.0) e) ts m l)
     (outcome_cases n m (filter_map (given_by c) ts) k.0))
     (children_stay ts cs ns ms d.1 (second_so (is_choice c n) (pointwise is_choice cs ns) h) k.1)
 children_stay ts [] [] (m ∷ ms) d h k = elim k [ ]

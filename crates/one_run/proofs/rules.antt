@@ -1,12 +1,12 @@
 mod Cells
 mod Children
-mod Clean
 mod Components
 mod Declared
 mod Earlier
 mod Mentions
 mod Names
 mod Order
+mod Receives
 pub mod Scoped
 mod Sends
 mod Sizes

@@ -1,28 +1,30 @@
 -- Laws of certified specifications. Each is the contract of a function with no body.
-use Rattle.std.specs.Prelude.{◌≡◌, ℕ, ◌≤◌, List, [], ◌∷◌, length, None, IsTrue, IsPermutation}
+use Rattle.std.specs.Prelude.{◌≡◌, ℕ, ◌≤◌, List, [], ◌∷◌, length, None, IsTrue, ◌↔◌, IsPermutation}
 use Rattle.rsml_syntax.specs.declared.syntax.Spec.{Spec}
 use Rattle.rsml_syntax.specs.declared.world.World.{World}
-use Rattle.rsml_syntax.specs.Rules.{refused}
+use Rattle.rsml_syntax.specs.rules.Rules.{broken_rule}
 use Rattle.rsml_meaning.specs.Words.{Instance, Path, Each}
 use Rattle.rsml_meaning.specs.Worlds.{IsWorld}
 use Rattle.rsml_meaning.specs.Truth.{view}
 use Rattle.rsml_meaning.specs.Transitions.{TransitionInstance}
-use Rattle.rsml_meaning.specs.Chains.{is_external, IsLength, Ends}
+use Rattle.rsml_meaning.specs.Groups.{state, enabled_count}
+use Rattle.rsml_meaning.specs.Chains.{is_external, IsLength, HasLength, Ends}
 use Rattle.rsml_meaning.specs.Certified.{Certified}
-use Rattle.rsml_meaning.specs.Steps.{enabled_transitions}
+use Rattle.rsml_meaning.specs.Steps.{enabled_transitions, AreOutcomes}
 use Rattle.rsml_meaning.specs.EventFiles.{Limits, Line, messages}
-use Rattle.rsml_meaning.specs.Runs.{Reaction, IsRun, HasOneRun}
+use Rattle.rsml_meaning.specs.Runs.{Reaction, IsRun, HaveOneRun, HasOneRun}
+use Rattle.rsml_meaning.specs.Report.{Answers, AreRight, refusals}
 use Rattle.one_run.specs.Scoped.{WellScoped}
 use Rattle.one_run.specs.MicroSteps.{Result, IsResult, HasOneResult, NoTwoOnALine, FunctionsHaveOneValue, IsDeterminate}
-use Rattle.one_run.specs.Deterministic.{IsLowestLine, enabled_on_line, IsActiveSource, HasLowestLine, StepsEndInTime, IsDeterministic}
-use Rattle.one_run.specs.Turns.{after_all}
-use Rattle.one_run.specs.Whole.{StepResult, IsStepResult, HasOneStep, HaveOneRun}
+use Rattle.one_run.specs.Deterministic.{IsLowestLine, IsActiveSource, HasLowestLine, StepsEndInTime, IsDeterministic}
+use Rattle.one_run.specs.Turns.{IsActiveTransition, after_all}
+use Rattle.one_run.specs.Whole.{StepResult, IsStepResult, HasOneStep}
 
 -- What the rules give.
 
 -- a specification that keeps the rules S1 to S16 is well scoped
 abbrev pub RulesGiveScopes : Type 0
-RulesGiveScopes = (s : Spec) → refused s ≡ None → WellScoped s
+RulesGiveScopes = (s : Spec) → broken_rule s ≡ None → WellScoped s
 
 -- Micro-steps of any specification.
 
@@ -43,7 +45,8 @@ MicroStepsAreOne = (s : Spec) (w : World) (present : List Instance) → WellScop
 
 -- on each lowest active line exactly one transition is enabled
 abbrev pub LowestLinesEnableOne : Type 0
-LowestLinesEnableOne = (s : Spec) (w : World) (path : Path) (e : Instance) → Certified s → IsWorld s w → IsLowestLine s w path e → enabled_on_line s w path e ≡ 1
+LowestLinesEnableOne = (s : Spec) (w : World) (path : Path) (e : Instance) → WellScoped s → Certified s → IsWorld s w → IsLowestLine s w path e
+    → enabled_count s (state path e) (view s w) ≡ 1
 
 -- at or below each active source of a transition on an event there is a lowest active line for it
 abbrev pub SourcesHaveLowestLines : Type 0
@@ -56,10 +59,11 @@ abbrev pub RoundsAreDeterminate : Type 0
 RoundsAreDeterminate = (s : Spec) (w : World) (x : Instance) (n : ℕ) (present : List Instance) → WellScoped s → Certified s → IsWorld s w
     → Each (Ends s x n) present → IsDeterminate s w x n present
 
--- the transitions that a round takes can be entered in any order
+-- Transitions with active sources, no two of which lie on one line, can be entered in any order: each leaves the one
+-- choice of children in which every component has a child that one of them gives it, or where none gives one its own.
 abbrev pub OrderDoesNotMatter : Type 0
-OrderDoesNotMatter = (s : Spec) (w : World) (x : Instance) (n : ℕ) (present : List Instance) (r : Result) (ts : List TransitionInstance)
-    → WellScoped s → Certified s → IsWorld s w → Each (Ends s x n) present → IsResult s w present r → IsPermutation r.taken ts → after_all s ts w.choices ≡ r.world.choices
+OrderDoesNotMatter = (s : Spec) (w : World) (taken ts : List TransitionInstance) (choices : List ℕ)
+    → Each (IsActiveTransition s w) taken → NoTwoOnALine taken → IsPermutation taken ts → AreOutcomes s taken w.choices choices → after_all s ts w.choices ≡ choices
 
 -- Steps and runs of a certified specification.
 
@@ -69,7 +73,7 @@ StepsAreOne = (s : Spec) (w : World) (x : Instance) → WellScoped s → Certifi
 
 -- an external event has a length
 abbrev pub EventsHaveLengths : Type 0
-EventsHaveLengths = (s : Spec) (x : Instance) → Certified s → IsTrue (is_external s x) → (n : ℕ) × IsLength s x n
+EventsHaveLengths = (s : Spec) (x : Instance) → Certified s → IsTrue (is_external s x) → HasLength s x
 
 -- a step on an event has at most as many rounds as the event's length
 abbrev pub StepsAreShort : Type 0
@@ -87,6 +91,14 @@ LinesHaveOneRun = (s : Spec) (lines : List Line) → WellScoped s → Certified 
 abbrev pub EventFilesHaveOneRun : Type 0
 EventFilesHaveOneRun = (s : Spec) (limits : Limits) → WellScoped s → Certified s → HasOneRun s limits
 
+-- Reports.
+
+-- where the rules are kept, a right report counts no refusal exactly where the specification is certified: so its last line is then `certified`
+abbrev pub LastLineIsVerdict : Type 0
+LastLineIsVerdict = (s : Spec) (a : Answers) → broken_rule s ≡ None → AreRight s a → (refusals s a ≡ 0) ↔ Certified s
+
+-- The headline.
+
 -- a specification that keeps the rules and is certified is deterministic
 abbrev pub CertifiedIsDeterministic : Type 0
-CertifiedIsDeterministic = (s : Spec) → refused s ≡ None → Certified s → IsDeterministic s
+CertifiedIsDeterministic = (s : Spec) → broken_rule s ≡ None → Certified s → IsDeterministic s

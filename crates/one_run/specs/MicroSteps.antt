@@ -4,9 +4,10 @@ use Rattle.std.specs.List.{list_any}
 use Rattle.rsml_syntax.specs.declared.syntax.Spec.{Spec}
 use Rattle.rsml_syntax.specs.declared.world.World.{World}
 use Rattle.rsml_meaning.specs.Words.{Instance, same_instance, has, on_one_line, Each, IsOne}
-use Rattle.rsml_meaning.specs.Truth.{View, view, within, guard, Gives}
+use Rattle.rsml_meaning.specs.Truth.{view, Gives}
 use Rattle.rsml_meaning.specs.Transitions.{TransitionInstance}
 use Rattle.rsml_meaning.specs.Interfaces.{send_cases, sends, FunctionInstance, functions}
+use Rattle.rsml_meaning.specs.Groups.{function, enabled_count}
 use Rattle.rsml_meaning.specs.Chains.{Ends}
 use Rattle.rsml_meaning.specs.Steps.{Sent, Micro, enabled_transitions, enabled_sends}
 
@@ -43,15 +44,11 @@ is_asked s present send = list_any (λ c. same_instance c.send send && has prese
 abbrev pub enabled_cases : Spec → World → List Instance → Instance → ℕ
 enabled_cases s w present send = length (filter (λ c. same_instance c.send send) (enabled_sends s (view s w) present))
 
--- how many cases of a function have a true guard
-abbrev pub true_cases : View → FunctionInstance → ℕ
-true_cases v f = length (filter (λ c. guard v (within f.function.index) c.1.guard) f.cases)
-
 -- What is known of a round from a world: no two taken sources lie on one line, a send instance that is asked has one
 -- enabled case, a function has one true case, there is one result, and the events that it leaves end longer chains.
 pub record IsDeterminate (s : Spec) (w : World) (x : Instance) (n : ℕ) (present : List Instance) : Type 0 where
   pub apart : NoTwoOnALine (enabled_transitions s (view s w) present)
   pub sends : (c : Instance) → IsOne c (sends s) → IsTrue (is_asked s present c) → enabled_cases s w present c ≡ 1
-  pub functions : (f : FunctionInstance) → IsOne f (functions s) → true_cases (view s w) f ≡ 1
+  pub functions : (f : FunctionInstance) → IsOne f (functions s) → enabled_count s (function f) (view s w) ≡ 1
   pub result : HasOneResult s w present
   pub longer : (r : Result) → IsResult s w present r → Each (Ends s x (suc n)) r.raised

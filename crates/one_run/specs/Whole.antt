@@ -1,11 +1,9 @@
--- What a step comes to, and runs of lines.
+-- What a step comes to.
 use Rattle.std.specs.Prelude.{◌≡◌, List}
 use Rattle.rsml_syntax.specs.declared.syntax.Spec.{Spec}
 use Rattle.rsml_syntax.specs.declared.world.World.{World}
 use Rattle.rsml_meaning.specs.Words.{Instance}
 use Rattle.rsml_meaning.specs.Steps.{Round, IsStep}
-use Rattle.rsml_meaning.specs.EventFiles.{Line}
-use Rattle.rsml_meaning.specs.Runs.{Reaction, IsRun}
 
 -- What a step comes to: its rounds, each with its present events, taken transitions, send cases and values; and the
 -- world that it leaves.
@@ -20,7 +18,3 @@ IsStepResult s w present r = IsStep s w present r.rounds r.world
 -- a step from present events comes to one thing
 abbrev pub HasOneStep : Spec → World → List Instance → Type 0
 HasOneStep s w present = (r : StepResult) × IsStepResult s w present r × ((q : StepResult) → IsStepResult s w present q → q ≡ r)
-
--- lines of an event file have exactly one run
-abbrev pub HaveOneRun : Spec → List Line → Type 0
-HaveOneRun s lines = (rs : List Reaction) × IsRun s lines rs × ((qs : List Reaction) → IsRun s lines qs → qs ≡ rs)

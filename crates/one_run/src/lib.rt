@@ -7,6 +7,7 @@ mod lowest_lines;
 mod micro_steps;
 mod rounds;
 mod scopes;
+mod verdicts;
 mod whole_steps;
 
 pub use event_runs::event_files_have_one_run;
@@ -15,4 +16,5 @@ pub use lowest_lines::lowest_lines_enable_one;
 pub use micro_steps::micro_steps_have_one_result;
 pub use rounds::{order_does_not_matter, rounds_are_determinate};
 pub use scopes::rules_give_scopes;
+pub use verdicts::last_lines_tell_the_verdict;
 pub use whole_steps::steps_have_one_result;

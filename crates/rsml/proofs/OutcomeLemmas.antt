@@ -1,42 +1,26 @@
--- What an action comes to, by what its steps answered.
-use Rattle.std.proofs.Common.{◌≡◌, ◌≢◌, ℕ, true, false, List, Some, None, Result, Ok, Err, sym, ◌∙◌, subst}
+-- What an action comes to on a text, by what its steps answered.
+use Rattle.std.proofs.Common.{◌≡◌, ◌≢◌, ℕ, Vec, Result, Ok, Err, sym, ◌∙◌, subst}
 use Rattle.std.specs.Prelude.{IfOk}
-use Rattle.flat_machine.specs.Flat.{is_flat}
-use Rattle.rsml_meaning.specs.Certified.{Certified}
-use Rattle.rsml_meaning.specs.Report.{IsReport}
-use Rattle.rsml_rules.specs.declared.error.RuleError.{RuleError}
-use Rattle.rsml_rules.specs.declared.error.RuleError.TheVariants as errors
-use Rattle.rsml_syntax.specs.Limits.{Keeps, over}
-use Rattle.rsml_syntax.specs.Rules.{refused}
-use Rattle.rsml_syntax.specs.declared.no_memory.NoMemory.{NoMemory}
+use Rattle.std.specs.declared.alloc.Global.{Global}
+use Rattle.rsml_base.specs.declared.no_memory.NoMemory.{NoMemory}
+use Rattle.rsml_syntax.specs.grammar.Grammar.{tokens_of}
+use Rattle.rsml_syntax.specs.grammar.Layout.{layout}
 use Rattle.rsml_syntax.specs.declared.syntax.Spec.{Spec}
-use Rattle.rsml.specs.Acts.{IsOfText}
 use Rattle.rsml.specs.Commands.{Bytes}
-use Rattle.rsml.specs.Output.{IsTextOf, JudgedOutput, CheckOutput, FormatOutput, ActionOutput, IsUnread, too_long, no_tokens, no_syntax, too_deep}
+use Rattle.rsml.specs.FaultLines as lines
+use Rattle.rsml.specs.Headline.{IsCertificate, IsRefusal}
+use Rattle.rsml.specs.Judgements.{IsBroken, IsJudgement}
+use Rattle.rsml.specs.Output.{CheckOutput, FormatOutput, MigrateOutput}
 use Rattle.rsml.specs.Output as output
-use Rattle.rsml.specs.Outcomes.{IsJudged, IsLaidOut, IsNotBuilt, IsRuleLine, rule, limit}
-use Rattle.rsml.specs.Faults.{rule_line, limit_line}
-use Rattle.rsml.specs.Readings.{IsReading, IsFaultLine}
-use Rattle.rsml.specs.declared.command.Action.{Action}
-use Rattle.rsml.specs.declared.command.Action.TheVariants as action
+use Rattle.rsml.specs.Steps.{IsOfText}
+use Rattle.rsml.specs.Texts.{IsTextOf, IsUnread, IsTextByFirst, IsUnreadByFirst}
+use Rattle.rsml.specs.declared.judging.Judgement.{Judgement}
+use Rattle.rsml.specs.declared.judging.Judgement.TheVariants as judgement
 use Rattle.rsml.specs.declared.outcome.Outcome.{Outcome}
-use Rattle.rsml.specs.declared.reading.Reading.{Reading}
-use Rattle.rsml.specs.declared.reading.Reading.TheVariants as reading
 use Rattle.rsml.specs.declared.status.Status.{Status}
 use Rattle.rsml.specs.declared.status.Status.TheVariants as status
 
--- what `check` and `format` come to on the specification of a text
-pub check_output : (text : Bytes) (s : Spec) (r : Result Outcome NoMemory) → IsTextOf text s → IfOk r (IsJudged s) → IfOk r (λ o. ActionOutput action.Check text o.status o.text.items)
-check_output text s (Ok o) t is = output.CheckOutput.judged s t is
-check_output text s (Err x) t is = is
-
-pub format_output : (text : Bytes) (s : Spec) (r : Result Outcome NoMemory) → IsTextOf text s → IfOk r (IsLaidOut s) → IfOk r (λ o. ActionOutput action.Format text o.status o.text.items)
-format_output text s (Ok o) t is = output.FormatOutput.formatted s t is.is_status is.is_text
-format_output text s (Err x) t is = is
-
-pub unread_output : (act : Action) (text : Bytes) (answer : Status) (bytes : Bytes) → IsUnread text answer bytes → ActionOutput act text answer bytes
-unread_output action.Check text answer bytes u = output.CheckOutput.unread u
-unread_output action.Format text answer bytes u = output.FormatOutput.unread u
+-- the status of a text, by cases
 
 of_text : (answer given : Status) → answer ≡ given → given ≢ status.WriteFault → given ≢ status.NoMemory → given ≢ status.ReadFault → given ≢ status.Usage → IsOfText answer
 of_text answer given e a b c d = record {
@@ -45,67 +29,74 @@ of_text answer given e a b c d = record {
   no_usage = λ f. d (sym e ∙ f);
 }
 
-fault_of_text : (answer : Status) → answer ≡ status.SpecFault → IsOfText answer
+pub fault_of_text : (answer : Status) → answer ≡ status.SpecFault → IsOfText answer
 fault_of_text answer e = of_text answer status.SpecFault e (λ f. absurd (cc f)) (λ f. absurd (cc f)) (λ f. absurd (cc f)) (λ f. absurd (cc f))
 
-done_of_text : (answer : Status) → answer ≡ status.Done → IsOfText answer
+pub done_of_text : (answer : Status) → answer ≡ status.Done → IsOfText answer
 done_of_text answer e = of_text answer status.Done e (λ f. absurd (cc f)) (λ f. absurd (cc f)) (λ f. absurd (cc f)) (λ f. absurd (cc f))
 
-unread_of_text : (text : Bytes) (answer : Status) (bytes : Bytes) → IsUnread text answer bytes → IsOfText answer
-unread_of_text text answer bytes (too_long _ e _) = of_text answer status.TooLong e (λ f. absurd (cc f)) (λ f. absurd (cc f)) (λ f. absurd (cc f)) (λ f. absurd (cc f))
-unread_of_text text answer bytes (no_tokens _ _ _ e _) = fault_of_text answer e
-unread_of_text text answer bytes (no_syntax _ _ _ _ _ e _) = fault_of_text answer e
-unread_of_text text answer bytes (too_deep _ _ _ _ _ e _) = fault_of_text answer e
+pub refused_of_text : (answer : Status) → answer ≡ status.Refused → IsOfText answer
+refused_of_text answer e = of_text answer status.Refused e (λ f. absurd (cc f)) (λ f. absurd (cc f)) (λ f. absurd (cc f)) (λ f. absurd (cc f))
 
-judged_of_text : (s : Spec) (answer : Status) (bytes : Bytes) → JudgedOutput s answer bytes → IsOfText answer
-judged_of_text s answer bytes (output.broken _ _ e _) = fault_of_text answer e
-judged_of_text s answer bytes (output.too_large _ _ _ e _) = fault_of_text answer e
-judged_of_text s answer bytes (output.JudgedOutput.not_built _ _ e _) = of_text answer status.NotBuilt e (λ f. absurd (cc f)) (λ f. absurd (cc f)) (λ f. absurd (cc f)) (λ f. absurd (cc f))
-judged_of_text s answer bytes (output.JudgedOutput.certified _ _ _ e _) = done_of_text answer e
-judged_of_text s answer bytes (output.unsound _ _ _ e _) = of_text answer status.Refused e (λ f. absurd (cc f)) (λ f. absurd (cc f)) (λ f. absurd (cc f)) (λ f. absurd (cc f))
+pub long_of_text : (answer : Status) → answer ≡ status.TooLong → IsOfText answer
+long_of_text answer e = of_text answer status.TooLong e (λ f. absurd (cc f)) (λ f. absurd (cc f)) (λ f. absurd (cc f)) (λ f. absurd (cc f))
 
--- the status of what an action comes to
-pub output_of_text : (act : Action) (text : Bytes) (answer : Status) (bytes : Bytes) → ActionOutput act text answer bytes → IsOfText answer
-output_of_text action.Check text answer bytes (output.CheckOutput.unread u) = unread_of_text text answer bytes u
-output_of_text action.Check text answer bytes (output.CheckOutput.judged s _ j) = judged_of_text s answer bytes j
-output_of_text action.Format text answer bytes (output.FormatOutput.unread u) = unread_of_text text answer bytes u
-output_of_text action.Format text answer bytes (output.formatted _ _ e _) = done_of_text answer e
+pub unbuilt_of_text : (answer : Status) → answer ≡ status.NotBuilt → IsOfText answer
+unbuilt_of_text answer e = of_text answer status.NotBuilt e (λ f. absurd (cc f)) (λ f. absurd (cc f)) (λ f. absurd (cc f)) (λ f. absurd (cc f))
 
--- what was read
-pub unread_is : (text : Bytes) (r : Reading) (o : Outcome) → r ≡ reading.Unread o → IsReading text r → IsUnread text o.status o.text.items
-unread_is text r o e is = subst (λ (x : Reading). IsReading text x) e is
+-- what `check` comes to, by what the text is judged to be
 
-pub read_is : (text : Bytes) (r : Reading) (s : Spec) → r ≡ reading.Read s → IsReading text r → IsTextOf text s
-read_is text r s e is = subst (λ (x : Reading). IsReading text x) e is
+pub unread_output : (text : Bytes) (j : Judgement) (line : Vec ℕ Global) (o : Outcome) → j ≡ judgement.Unread line → IsJudgement text j
+    → o.status ≡ status.SpecFault → o.text ≡ line → CheckOutput text o.status o.text.items
+unread_output text j line o e h s t =
+    let is : IsUnread text line.items = subst (IsJudgement text) e h in
+    output.CheckOutput.unread (subst (λ (v : Vec ℕ Global). IsUnread text v.items) (sym t) is) s
 
--- what `check` comes to on a specification that is not flat
-pub unbuilt_judged : (s : Spec) (r : Result Outcome NoMemory) → Keeps s → is_flat s ≡ false → IfOk r IsNotBuilt → IfOk r (IsJudged s)
-unbuilt_judged s (Ok o) keeps flat is = output.JudgedOutput.not_built keeps flat is.is_status is.is_text
-unbuilt_judged s (Err x) keeps flat is = is
+pub broken_output : (text : Bytes) (j : Judgement) (line : Vec ℕ Global) (o : Outcome) → j ≡ judgement.Broken line → IsJudgement text j
+    → o.status ≡ status.SpecFault → o.text ≡ line → CheckOutput text o.status o.text.items
+broken_output text j line o e h s t =
+    let is : IsJudgement text (judgement.Broken line) = subst (IsJudgement text) e h in
+    output.judged is.0 is.1 (output.broken (subst (λ (v : Vec ℕ Global). IsBroken is.0 v.items) (sym t) is.2) s)
 
--- what it comes to on a flat one
-pub certified_judged : (s : Spec) (o : Outcome) → Keeps s → is_flat s ≡ true → Certified s → o.status ≡ status.Done → IsReport s o.text.items → IsJudged s o
-certified_judged s o keeps flat is e told = output.JudgedOutput.certified keeps flat is e told
+pub refused_output : (text : Bytes) (j : Judgement) (report : Vec ℕ Global) (o : Outcome) → j ≡ judgement.Refused report → IsJudgement text j
+    → o.status ≡ status.Refused → o.text ≡ report → CheckOutput text o.status o.text.items
+refused_output text j report o e h s t =
+    let is : IsJudgement text (judgement.Refused report) = subst (IsJudgement text) e h in
+    output.judged is.0 is.1 (output.refused is.2.0 (subst (λ (v : Vec ℕ Global). IsRefusal is.0 v.items) (sym t) is.2.1) s)
 
-pub refused_judged : (s : Spec) (o : Outcome) → Keeps s → is_flat s ≡ true → (Certified s → ⊥) → o.status ≡ status.Refused → IsReport s o.text.items → IsJudged s o
-refused_judged s o keeps flat unfit e told = output.unsound keeps flat unfit e told
+pub certified_output : (text : Bytes) (j : Judgement) (report : Vec ℕ Global) (spec : Spec) (o : Outcome) → j ≡ judgement.Certified report spec → IsJudgement text j
+    → o.status ≡ status.Done → o.text ≡ report → CheckOutput text o.status o.text.items
+certified_output text j report spec o e h s t =
+    let is : IsJudgement text (judgement.Certified report spec) = subst (IsJudgement text) e h in
+    output.judged is.0 is.1 (output.certified is.2.1 (subst (λ (v : Vec ℕ Global). IsCertificate is.0 v.items) (sym t) is.2.2) s)
 
--- what it comes to on one that breaks a rule or a limit
-pub broken_judged : (s : Spec) (error : RuleError) (r : Result Outcome NoMemory)
-    → ((number : ℕ) (name : List ℕ) → error ≡ errors.Rule number name → refused s ≡ Some (record { rule = number; shown = name }))
-    → ((number count : ℕ) → error ≡ errors.Limit number count → (refused s ≡ None) × (over s ≡ Some (number, count)))
-    → IfOk r (IsRuleLine error) → IfOk r (IsJudged s)
-broken_judged s error (Ok o) rules limits (rule number name e line) = output.broken _ (rules number name e) line.is_status line.is_text
-broken_judged s error (Ok o) rules limits (limit number count e line) = output.too_large _ (limits number count e).0 (limits number count e).1 line.is_status line.is_text
-broken_judged s error (Err x) rules limits is = is
+pub unbuilt_output : (text : Bytes) (j : Judgement) (r : Result Outcome NoMemory) → j ≡ judgement.NotBuilt → IsJudgement text j
+    → IfOk r (λ o. o.status ≡ status.NotBuilt) → IfOk r (λ o. o.text.items ≡ lines.not_built) → IfOk r (λ o. CheckOutput text o.status o.text.items)
+unbuilt_output text j (Ok o) e h s t = let is : IsJudgement text judgement.NotBuilt = subst (IsJudgement text) e h in output.judged is.0 is.1 (output.not_built is.2 s t)
+unbuilt_output text j (Err x) e h s t = s
 
--- the lines of a rule and of a limit
-pub rule_told : (number : ℕ) (name : List ℕ) (error : RuleError) (r : Result Outcome NoMemory) → error ≡ errors.Rule number name
-    → IfOk r (IsFaultLine (rule_line (record { rule = number; shown = name }))) → IfOk r (IsRuleLine error)
-rule_told number name error (Ok o) e line = rule number name e line
-rule_told number name error (Err x) e line = line
+pub long_output : (text : Bytes) (j : Judgement) (r : Result Outcome NoMemory) → j ≡ judgement.TooLong → IsJudgement text j
+    → IfOk r (λ o. o.status ≡ status.TooLong) → IfOk r (λ o. o.text.items ≡ lines.long) → IfOk r (λ o. CheckOutput text o.status o.text.items)
+long_output text j (Ok o) e h s t = output.CheckOutput.too_long (subst (IsJudgement text) e h) s t
+long_output text j (Err x) e h s t = s
 
-pub limit_told : (number count : ℕ) (error : RuleError) (r : Result Outcome NoMemory) → error ≡ errors.Limit number count
-    → IfOk r (IsFaultLine (limit_line (number, count))) → IfOk r (IsRuleLine error)
-limit_told number count error (Ok o) e line = limit number count e line
-limit_told number count error (Err x) e line = line
+-- what `format` comes to
+
+pub layout_output : (text : Bytes) (s : Spec) (r : Result Outcome NoMemory) → IsTextOf text s
+    → IfOk r (λ o. o.status ≡ status.Done) → IfOk r (λ o. o.text.items ≡ layout (tokens_of s)) → IfOk r (λ o. FormatOutput text o.status o.text.items)
+layout_output text s (Ok o) is e t = output.formatted s is e t
+layout_output text s (Err x) is e t = e
+
+pub fault_output : (text : Bytes) (line : Vec ℕ Global) (o : Outcome) → IsUnread text line.items → o.status ≡ status.SpecFault → o.text ≡ line → FormatOutput text o.status o.text.items
+fault_output text line o is e t = output.FormatOutput.unread (subst (λ (v : Vec ℕ Global). IsUnread text v.items) (sym t) is) e
+
+-- what `migrate` comes to
+
+pub migrated_output : (text : Bytes) (s : Spec) (r : Result Outcome NoMemory) → IsTextByFirst text s
+    → IfOk r (λ o. o.status ≡ status.Done) → IfOk r (λ o. o.text.items ≡ layout (tokens_of s)) → IfOk r (λ o. MigrateOutput text o.status o.text.items)
+migrated_output text s (Ok o) is e t = output.migrated s is e t
+migrated_output text s (Err x) is e t = e
+
+pub first_fault_output : (text : Bytes) (line : Vec ℕ Global) (o : Outcome) → IsUnreadByFirst text line.items → o.status ≡ status.SpecFault → o.text ≡ line
+    → MigrateOutput text o.status o.text.items
+first_fault_output text line o is e t = output.MigrateOutput.unread (subst (λ (v : Vec ℕ Global). IsUnreadByFirst text v.items) (sym t) is) e

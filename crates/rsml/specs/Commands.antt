@@ -1,9 +1,10 @@
 -- The commands: what the words after the program's name ask for.
 use Rattle.std.specs.Prelude.{ℕ, true, false, List, [], ◌∷◌, Option, Some, None, codes, option_map}
-use Rattle.rsml_syntax.specs.Names.{same}
+use Rattle.rsml_syntax.specs.text.Names.{same}
 use Rattle.rsml.specs.declared.command.Action.{Action}
 use Rattle.rsml.specs.declared.command.Action.TheVariants as action
 
+-- bytes, each as its number
 abbrev pub Bytes : Type 0
 Bytes = List ℕ
 
@@ -11,7 +12,10 @@ Bytes = List ℕ
 abbrev pub action_of : Bytes → Option Action
 action_of word = elim (same word (codes "check")) [
   | true ↦ Some action.Check
-  | false ↦ elim (same word (codes "format")) [ true ↦ Some action.Format | false ↦ None ]
+  | false ↦ elim (same word (codes "format")) [
+    | true ↦ Some action.Format
+    | false ↦ elim (same word (codes "migrate")) [ true ↦ Some action.Migrate | false ↦ None ]
+  ]
 ]
 
 -- An action, and the name of the specification's file.
@@ -19,6 +23,7 @@ pub record Command : Type 0 where
   pub action : Action
   pub file : Bytes
 
+-- the command of this action on this file
 abbrev pub with_file : Bytes → Action → Command
 with_file file action = record { action = action; file = file }
 

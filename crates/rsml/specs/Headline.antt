@@ -1,37 +1,41 @@
--- The headline: what it says that `check` certifies a specification, or refuses it.
-use Rattle.std.specs.Prelude.{◌≡◌, Some}
+-- The headline: what a certificate and a refusal say of a specification, and what was written of it.
+use Rattle.std.specs.Prelude.{◌≡◌, ℕ, ◌<◌, ◌++◌, codes, decimal}
 use Rattle.one_run.specs.Deterministic.{IsDeterministic}
 use Rattle.rsml_meaning.specs.Certified.{Certified}
 use Rattle.rsml_meaning.specs.Report.{Answers, AreRight, report_text}
+use Rattle.rsml_meaning.specs.Texts.{text_line}
 use Rattle.rsml_syntax.specs.declared.syntax.Spec.{Spec}
-use Rattle.rsml.specs.Commands.{Bytes, with_file, command_of}
-use Rattle.rsml.specs.declared.command.Action.TheVariants as action
-use Rattle.rsml.specs.declared.status.Status.{Status}
-use Rattle.rsml.specs.declared.status.Status.TheVariants as status
-use Rattle.rsml.specs.Output.{IsTextOf}
-use Rattle.rsml.specs.Promises.{Meeting, Tells, Writes}
+use Rattle.rsml.specs.Commands.{Bytes}
 
--- The command is `check`, and its file holds this specification.
-pub record Checks (m : Meeting) (contents : Bytes → Bytes) (s : Spec) : Type 0 where
-  pub file : Bytes
-  pub command : command_of m.words ≡ Some (with_file file action.Check)
-  pub text : IsTextOf (contents file) s
-
--- The report on the specification was written, and what it tells is right: the length of each external event, and of each
--- group that it is sound, or a least world in which really none of its members is enabled, or two or more are.
-pub record Reports (m : Meeting) (s : Spec) : Type 0 where
+-- The bytes are the report on the specification, and all that it tells is right: the length of each external event, the
+-- events that loop, the first clash of each external event, and of each group that it is sound, or the least world in which
+-- none of its members is enabled, or two or more are.
+pub record IsRightReport (s : Spec) (bytes : Bytes) : Type 0 where
   pub answers : Answers
   pub right : AreRight s answers
-  pub written : Writes m (report_text s answers)
+  pub text : bytes ≡ report_text s answers
 
--- Where `check` ends with Done, the specification is deterministic: in every world exactly one transition is enabled on each
--- lowest active line for each event, every well-formed event file has exactly one run, and each step ends within the length
--- of its event; and these lengths were written.
-abbrev pub Certifies : Meeting → Status → Type 0
-Certifies m answer = answer ≡ status.Done → (contents : Bytes → Bytes) → Tells m contents → (s : Spec) → Checks m contents s
-    → IsDeterministic s × Reports m s
+-- The text is lines, the last of which is this one.
+pub record EndsInLine (text line : Bytes) : Type 0 where
+  pub before : Bytes
+  pub split : text ≡ (before ++ codes "\n") ++ text_line line
 
--- Where it ends with Refused, the specification is not certified, and what was found was written.
-abbrev pub Refuses : Meeting → Status → Type 0
-Refuses m answer = answer ≡ status.Refused → (contents : Bytes → Bytes) → Tells m contents → (s : Spec) → Checks m contents s
-    → (Certified s → ⊥) × Reports m s
+-- A certificate. All groups are sound, no event loops and there is no clash. Every external event has a length; in every
+-- configuration and input valuation exactly one transition is enabled on each lowest active line for each event, exactly
+-- one case of a send on each event that it has a case on, and exactly one case of a function; every well-formed event file
+-- has exactly one run, and each step ends within the length of its event. The bytes are the report, whose last line is
+-- `certified`.
+pub record IsCertificate (s : Spec) (bytes : Bytes) : Type 0 where
+  pub certified : Certified s
+  pub deterministic : IsDeterministic s
+  pub report : IsRightReport s bytes
+  pub last_line : EndsInLine bytes (codes "certified")
+
+-- A refusal. The specification is not certified. The bytes are the report, whose last line tells how many loops, clashes
+-- and findings stand before it: at least one.
+pub record IsRefusal (s : Spec) (bytes : Bytes) : Type 0 where
+  pub not_certified : Certified s → ⊥
+  pub report : IsRightReport s bytes
+  pub count : ℕ
+  pub some : 0 < count
+  pub last_line : EndsInLine bytes (codes "refused " ++ decimal count)

@@ -1,9 +1,11 @@
-pub mod Acts
 pub mod Commands
-pub mod Faults
+pub mod FaultLines
 pub mod Headline
-pub mod Outcomes
+pub mod Judgements
+pub mod Laws
 pub mod Output
 pub mod Promises
-pub mod Readings
 pub mod Statuses
+pub mod Steps
+pub mod Texts
+pub mod Uses

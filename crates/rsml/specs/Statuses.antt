@@ -3,6 +3,7 @@ use Rattle.std.specs.Prelude.{ℕ}
 use Rattle.rsml.specs.declared.status.Status.{Status}
 use Rattle.rsml.specs.declared.status.Status.TheVariants as status
 
+-- by the table of statuses
 abbrev pub number : Status → ℕ
 number status.Done = 0
 number status.Refused = 1

@@ -8,6 +8,8 @@ pub enum Action {
     Check,
     /// Writes its layout.
     Format,
+    /// Reads it by the first edition of the notation, renames its name `previous`, and writes the layout.
+    Migrate,
 }
 
 /// A command: an action, and the name of the specification's file.
@@ -26,6 +28,9 @@ fn action_called(word: &str) -> Option<Action>
     }
     if word == "format" {
         return Some(Action::Format);
+    }
+    if word == "migrate" {
+        return Some(Action::Migrate);
     }
     None
 }

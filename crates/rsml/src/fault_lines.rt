@@ -1,56 +1,29 @@
-ghost use Rattle.std.specs.Prelude.{◌≡◌, ◌++◌, decimal, IfOk, OnOk};
-ghost use Rattle.rsml.specs.Faults as lines;
-ghost use Rattle.rsml.specs.Outcomes.{IsRuleLine};
-ghost use Rattle.rsml.specs.Readings.{IsFaultLine, IsLexicalLine, IsParseLine};
+ghost use Rattle.std.specs.Prelude.{◌≡◌, ◌++◌, decimal, IfOk};
+ghost use Rattle.rsml.specs.FaultLines as lines;
+ghost use Rattle.rsml.specs.Steps.{IsLexicalLine, IsParseLine, IsRuleLine};
 
-use crate::outcome::Outcome;
-use crate::status::Status;
-use itoa::Buffer;
+use rsml_base::{put, put_number};
 use rsml_lexer::LexError;
 use rsml_parser::ParseError;
 use rsml_rules::RuleError;
 use rsml_syntax::NoMemory;
 use std::alloc::Global;
 
-/// A fault of the specification, told by this line.
-fn told(text: Vec<u8>) -> Outcome
-    ensures { IsFaultLine text.items result }
-{
-    Outcome {
-        status: Status::SpecFault,
-        text,
-    }
-}
-
-fn put(text: &mut Vec<u8>, bytes: &[u8]) -> Result<(), NoMemory>
-    ensures { OnOk result (text.new.items ≡ text.old.items ++ bytes.now) }
-{
-    text.extend_from_slice(bytes)?;
-    Ok(())
-}
-
-fn put_number(text: &mut Vec<u8>, number: u64) -> Result<(), NoMemory>
-    ensures { OnOk result (text.new.items ≡ text.old.items ++ decimal number) }
-{
-    let mut buffer = Buffer::new();
-    put(text, buffer.format(number).as_bytes())
-}
-
 /// `fault`, these words, and a number.
 #[tactic(auto, using(std::proofs::lemmas::List::append_assoc))]
-fn numbered(alloc: Global, words: &[u8], number: u32) -> Result<Outcome, NoMemory>
-    ensures { IfOk result (IsFaultLine (lines.numbered_line words.now number)) }
+fn numbered(alloc: Global, words: &[u8], number: u32) -> Result<Vec<u8>, NoMemory>
+    ensures { IfOk result (λ line. line.items ≡ lines.numbered words.now number) }
 {
-    let mut text = Vec::from_slice(alloc, b"fault ")?;
-    put(&mut text, words)?;
-    put_number(&mut text, u64::from(number))?;
-    put(&mut text, b"\n")?;
-    Ok(told(text))
+    let mut line = Vec::from_slice(alloc, b"fault ")?;
+    put(&mut line, words)?;
+    put_number(&mut line, u64::from(number))?;
+    put(&mut line, b"\n")?;
+    Ok(line)
 }
 
 /// The line on a text that has no token list.
-pub fn lexical_fault(alloc: Global, error: LexError) -> Result<Outcome, NoMemory>
-    ensures { IfOk result (IsLexicalLine error) }
+pub fn lexical_fault(alloc: Global, error: LexError) -> Result<Vec<u8>, NoMemory>
+    ensures { IfOk result (λ line. IsLexicalLine error line.items) }
 {
     match error {
         LexError::NotUtf8 { at } => numbered(alloc, b"utf8 byte ", at),
@@ -61,8 +34,8 @@ pub fn lexical_fault(alloc: Global, error: LexError) -> Result<Outcome, NoMemory
 }
 
 /// The line on tokens that are no specification.
-pub fn parse_fault(alloc: Global, error: ParseError) -> Result<Outcome, NoMemory>
-    ensures { IfOk result (IsParseLine error) }
+pub fn parse_fault(alloc: Global, error: ParseError) -> Result<Vec<u8>, NoMemory>
+    ensures { IfOk result (λ line. IsParseLine error line.items) }
 {
     match error {
         ParseError::Syntax { token } => numbered(alloc, b"syntax token ", token),
@@ -73,33 +46,33 @@ pub fn parse_fault(alloc: Global, error: ParseError) -> Result<Outcome, NoMemory
 
 /// `fault S`, the number of a rule, and the name at which it is broken.
 #[tactic(auto, using(std::proofs::lemmas::List::append_assoc))]
-fn rule_line(alloc: Global, number: u8, name: &[u8]) -> Result<Outcome, NoMemory>
-    ensures { IfOk result (IsFaultLine (lines.rule_line (record { rule = number; shown = name.now }))) }
+fn rule_line(alloc: Global, number: u8, name: &[u8]) -> Result<Vec<u8>, NoMemory>
+    ensures { IfOk result (λ line. line.items ≡ lines.rule (record { rule = number; shown = name.now })) }
 {
-    let mut text = Vec::from_slice(alloc, b"fault S")?;
-    put_number(&mut text, u64::from(number))?;
-    put(&mut text, b" ")?;
-    put(&mut text, name)?;
-    put(&mut text, b"\n")?;
-    Ok(told(text))
+    let mut line = Vec::from_slice(alloc, b"fault S")?;
+    put_number(&mut line, u64::from(number))?;
+    put(&mut line, b" ")?;
+    put(&mut line, name)?;
+    put(&mut line, b"\n")?;
+    Ok(line)
 }
 
 /// `fault L`, the number of a limit, and the count.
 #[tactic(auto, using(std::proofs::lemmas::List::append_assoc))]
-fn limit_line(alloc: Global, number: u8, count: u64) -> Result<Outcome, NoMemory>
-    ensures { IfOk result (IsFaultLine (lines.limit_line (number, count))) }
+fn limit_line(alloc: Global, number: u8, count: u64) -> Result<Vec<u8>, NoMemory>
+    ensures { IfOk result (λ line. line.items ≡ lines.limit (number, count)) }
 {
-    let mut text = Vec::from_slice(alloc, b"fault L")?;
-    put_number(&mut text, u64::from(number))?;
-    put(&mut text, b" ")?;
-    put_number(&mut text, count)?;
-    put(&mut text, b"\n")?;
-    Ok(told(text))
+    let mut line = Vec::from_slice(alloc, b"fault L")?;
+    put_number(&mut line, u64::from(number))?;
+    put(&mut line, b" ")?;
+    put_number(&mut line, count)?;
+    put(&mut line, b"\n")?;
+    Ok(line)
 }
 
 /// The line on a specification that breaks a rule or a limit.
-pub fn rule_fault(alloc: Global, error: RuleError) -> Result<Outcome, NoMemory>
-    ensures { IfOk result (IsRuleLine error) }
+pub fn rule_fault(alloc: Global, error: RuleError) -> Result<Vec<u8>, NoMemory>
+    ensures { IfOk result (λ line. IsRuleLine error line.items) }
 {
     match error {
         RuleError::Rule { number, name } => rule_line(alloc, number, name.bytes()),

@@ -1,17 +1,17 @@
-ghost use Rattle.std.specs.Prelude.{◌≤◌, length, IfOk, IsTrue};
-ghost use Rattle.flat_machine.specs.Flat.{is_flat};
-ghost use Rattle.rsml_syntax.specs.Limits.{Keeps};
-ghost use Rattle.rsml_syntax.specs.WellFormed.{WellFormed};
-ghost use Rattle.rsml.specs.Acts.{IsOfText};
-ghost use Rattle.rsml.specs.Output.{ActionOutput};
-ghost use Rattle.rsml.specs.Outcomes.{IsJudged, IsLaidOut, IsNotBuilt};
+ghost use Rattle.std.specs.Prelude.{◌≡◌, ◌≤◌, length, IfOk, List, ℕ};
+ghost use Rattle.rsml_syntax.specs.grammar.Grammar.{tokens_of};
+ghost use Rattle.rsml_syntax.specs.grammar.Layout.{layout};
+ghost use Rattle.rsml_syntax.specs.grammar.WellFormed.{WellFormed};
+ghost use Rattle.rsml.specs.FaultLines as lines;
+ghost use Rattle.rsml.specs.Judgements.{IsJudgement};
+ghost use Rattle.rsml.specs.Output.{ActionOutput, CheckOutput, FormatOutput, MigrateOutput};
+ghost use Rattle.rsml.specs.Steps.{IsOfText};
 
 use crate::command::Action;
-use crate::fault_lines::rule_fault;
-use crate::reading::{Reading, read_text};
+use crate::judging::{Judgement, judge};
 use crate::status::Status;
-use flat_machine::{is_flat, report};
-use rsml_rules::check_rules;
+use crate::texts::{ReadText, read_first_edition, read_text};
+use rsml_lexer::GREATEST_TEXT;
 use rsml_syntax::{NoMemory, Spec, print_spec};
 use std::alloc::Global;
 
@@ -22,80 +22,104 @@ pub struct Outcome {
     pub text: Vec<u8>,
 }
 
-/// What `format` comes to on a specification.
-fn lay_out(alloc: Global, spec: &Spec) -> Result<Outcome, NoMemory>
-    requires { WellFormed spec.now }
-    ensures { IfOk result (IsLaidOut spec.now) }
+/// This text, with a status.
+fn with_text(status: Status, text: Vec<u8>) -> Outcome
+    ensures status { result.status ≡ status }
+    ensures text { result.text ≡ text }
 {
-    let layout = print_spec(alloc, spec)?;
-    Ok(Outcome {
-        status: Status::Done,
-        text: layout.into_bytes(),
-    })
+    Outcome { status, text }
 }
 
-/// That the analysis is not built.
+/// The line of a specification that is too long.
+fn too_long(alloc: Global) -> Result<Outcome, NoMemory>
+    ensures status { IfOk result (λ o. o.status ≡ Status.TooLong) }
+    ensures text { IfOk result (λ o. o.text.items ≡ lines.long) }
+{
+    Ok(with_text(Status::TooLong, Vec::from_slice(alloc, b"fault long\n")?))
+}
+
+/// The line of a specification that the analysis is not built for.
 fn not_built(alloc: Global) -> Result<Outcome, NoMemory>
-    ensures { IfOk result IsNotBuilt }
+    ensures status { IfOk result (λ o. o.status ≡ Status.NotBuilt) }
+    ensures text { IfOk result (λ o. o.text.items ≡ lines.not_built) }
 {
-    Ok(Outcome {
-        status: Status::NotBuilt,
-        text: Vec::from_slice(alloc, b"fault not built\n")?,
-    })
+    Ok(with_text(
+        Status::NotBuilt,
+        Vec::from_slice(alloc, b"fault not built\n")?,
+    ))
 }
 
-/// What `check` comes to on a flat specification that keeps the rules and the limits.
-fn analyse_flat(alloc: Global, spec: &Spec) -> Result<Outcome, NoMemory>
-    requires keeps { Keeps spec.now }
-    requires flat { IsTrue (is_flat spec.now) }
-    ensures { IfOk result (IsJudged spec.now) }
+/// What `check` comes to, by what the text is judged to be.
+fn judged(alloc: Global, judgement: Judgement) -> Result<Outcome, NoMemory>
+    ensures output { (text : List ℕ) → IsJudgement text judgement
+        → IfOk result (λ o. CheckOutput text o.status o.text.items) }
+    ensures status { IfOk result (λ o. IsOfText o.status) }
 {
-    let report = report(alloc, spec)?;
-    let status = if report.certified {
-        Status::Done
-    } else {
-        Status::Refused
-    };
-    Ok(Outcome {
-        status,
-        text: report.text,
-    })
-}
-
-/// What `check` comes to on a specification that keeps the rules and the limits.
-fn analyse(alloc: Global, spec: &Spec) -> Result<Outcome, NoMemory>
-    requires { Keeps spec.now }
-    ensures { IfOk result (IsJudged spec.now) }
-{
-    if is_flat(spec) {
-        analyse_flat(alloc, spec)
-    } else {
-        not_built(alloc)
+    match judgement {
+        Judgement::TooLong => too_long(alloc),
+        Judgement::Unread { line } => Ok(with_text(Status::SpecFault, line)),
+        Judgement::Broken { line } => Ok(with_text(Status::SpecFault, line)),
+        Judgement::NotBuilt => not_built(alloc),
+        Judgement::Refused { report } => Ok(with_text(Status::Refused, report)),
+        Judgement::Certified { report, .. } => Ok(with_text(Status::Done, report)),
     }
 }
 
-/// What `check` comes to on a specification.
-fn check(alloc: Global, spec: Spec) -> Result<Outcome, NoMemory>
-    requires { WellFormed spec }
-    ensures { IfOk result (IsJudged spec) }
+/// What `check` comes to on a text.
+fn check(alloc: Global, text: &[u8]) -> Result<Outcome, NoMemory>
+    ensures output { IfOk result (λ o. CheckOutput text.now o.status o.text.items) }
+    ensures status { IfOk result (λ o. IsOfText o.status) }
 {
-    match check_rules(alloc, spec) {
-        Ok(checked) => analyse(alloc, checked.spec()),
-        Err(error) => rule_fault(alloc, error),
+    let judgement = judge(alloc, text)?;
+    judged(alloc, judgement)
+}
+
+/// The layout of a specification.
+fn lay_out(alloc: Global, spec: &Spec) -> Result<Outcome, NoMemory>
+    requires { WellFormed spec.now }
+    ensures status { IfOk result (λ o. o.status ≡ Status.Done) }
+    ensures text { IfOk result (λ o. o.text.items ≡ layout (tokens_of spec.now)) }
+{
+    let layout = print_spec(alloc, spec)?;
+    Ok(with_text(Status::Done, layout.into_bytes()))
+}
+
+/// What `format` comes to on a text.
+fn format(alloc: Global, text: &[u8]) -> Result<Outcome, NoMemory>
+    ensures output { IfOk result (λ o. FormatOutput text.now o.status o.text.items) }
+    ensures status { IfOk result (λ o. IsOfText o.status) }
+{
+    if text.len() > GREATEST_TEXT {
+        return too_long(alloc);
+    }
+    match read_text(alloc, text)? {
+        ReadText::Specification(spec) => lay_out(alloc, &spec),
+        ReadText::Fault(line) => Ok(with_text(Status::SpecFault, line)),
+    }
+}
+
+/// What `migrate` comes to on a text.
+fn migrate(alloc: Global, text: &[u8]) -> Result<Outcome, NoMemory>
+    ensures output { IfOk result (λ o. MigrateOutput text.now o.status o.text.items) }
+    ensures status { IfOk result (λ o. IsOfText o.status) }
+{
+    if text.len() > GREATEST_TEXT {
+        return too_long(alloc);
+    }
+    match read_first_edition(alloc, text)? {
+        ReadText::Specification(spec) => lay_out(alloc, &spec),
+        ReadText::Fault(line) => Ok(with_text(Status::SpecFault, line)),
     }
 }
 
 /// What an action comes to on a text.
 pub fn outcome_of(alloc: Global, action: Action, text: &[u8]) -> Result<Outcome, NoMemory>
-    requires { length text.now ≤ 1048576 }
     ensures output { IfOk result (λ o. ActionOutput action text.now o.status o.text.items) }
     ensures status { IfOk result (λ o. IsOfText o.status) }
 {
-    match read_text(alloc, text)? {
-        Reading::Unread(outcome) => Ok(outcome),
-        Reading::Read(spec) => match action {
-            Action::Check => check(alloc, spec),
-            Action::Format => lay_out(alloc, &spec),
-        },
+    match action {
+        Action::Check => check(alloc, text),
+        Action::Format => format(alloc, text),
+        Action::Migrate => migrate(alloc, text),
     }
 }

@@ -1,26 +1,26 @@
-ghost use Rattle.std.specs.Prelude.{◌≡◌, map, string_bytes, List, ℕ, length, ◌≤◌};
-ghost use Rattle.rsml.specs.Commands.{Command as Asked};
-ghost use Rattle.rsml.specs.Faults as line;
-ghost use Rattle.rsml.specs.Acts as acts;
-ghost use Rattle.rsml.specs.Headline.{Certifies, Refuses};
-ghost use Rattle.rsml.specs.Promises.{Runs, meeting};
+ghost use Rattle.std.specs.Prelude.{◌≡◌, map, string_bytes, List, ℕ};
+ghost use Rattle.rsml.specs.Promises.{Runs};
+ghost use Rattle.rsml.specs.Steps as steps;
 
 use crate::command::{Action, command_in};
 use crate::outcome::outcome_of;
 use crate::status::Status;
-use one_run::certified_specifications_are_deterministic;
 use rsml_io::{Files, ReadError, Sink, read_all, write_all};
-use rsml_parser::at_most_one_specification;
 use rsml_syntax::NoMemory;
 use std::alloc::Global;
 
-/// How many bytes a specification may have.
-const GREATEST_TEXT: u64 = 1_048_576;
+/// How many bytes of a specification are read.
+const GREATEST_FILE: u64 = 1_048_576;
 
 /// Writes bytes as all that a command writes.
 fn finish<K: Sink>(sink: &mut K, bytes: &[u8], status: Status) -> Status
-    requires { acts.IsWritten status }
-    ensures { acts.HasWritten (K.written sink.old) (K.written sink.new) (K.faults sink.old) (K.faults sink.new) bytes.now status result }
+    requires { steps.IsWritten status }
+    ensures { steps.HasWritten (record {
+      written = K.written sink.old;
+      written_after = K.written sink.new;
+      refusals = K.faults sink.old;
+      refusals_after = K.faults sink.new;
+    }) bytes.now status result }
 {
     match write_all(sink, bytes) {
         Ok(()) => status,
@@ -36,11 +36,19 @@ fn act<F: Files, K: Sink>(
     files: &mut F,
     sink: &mut K,
 ) -> Status
-    ensures acted { acts.HasActed action file.now (F.contents files.old file.now) (F.faults files.old file.now) (F.faults files.new file.now)
-        (K.written sink.old) (K.written sink.new) (K.faults sink.old) (K.faults sink.new) result }
+    ensures acted { steps.HasActed action (record {
+      told = F.contents files.old file.now;
+      refusals = F.faults files.old file.now;
+      refusals_after = F.faults files.new file.now;
+    }) (record {
+      written = K.written sink.old;
+      written_after = K.written sink.new;
+      refusals = K.faults sink.old;
+      refusals_after = K.faults sink.new;
+    }) result }
     ensures contents { (name : List ℕ) → F.contents files.new name ≡ F.contents files.old name }
 {
-    match read_all(alloc, files, file, GREATEST_TEXT) {
+    match read_all(alloc, files, file, GREATEST_FILE) {
         Ok(text) => act_on(alloc, action, text.as_slice(), sink),
         Err(ReadError::NoMemory) => Status::NoMemory,
         Err(ReadError::ReadFault) => finish(sink, b"fault read\n", Status::ReadFault),
@@ -50,8 +58,12 @@ fn act<F: Files, K: Sink>(
 
 /// Writes what the action comes to on a text.
 fn act_on<K: Sink>(alloc: Global, action: Action, text: &[u8], sink: &mut K) -> Status
-    requires { length text.now ≤ 1048576 }
-    ensures { acts.HasActedOn action text.now (K.written sink.old) (K.written sink.new) (K.faults sink.old) (K.faults sink.new) result }
+    ensures { steps.HasActedOn action text.now (record {
+      written = K.written sink.old;
+      written_after = K.written sink.new;
+      refusals = K.faults sink.old;
+      refusals_after = K.faults sink.new;
+    }) result }
 {
     match outcome_of(alloc, action, text) {
         Ok(outcome) => finish(sink, outcome.text.as_slice(), outcome.status),
@@ -66,19 +78,22 @@ pub fn run<F: Files, K: Sink>(
     files: &mut F,
     sink: &mut K,
 ) -> Status
-    ensures runs { Runs (meeting (map (λ word. string_bytes word) words.now)
-        (F.contents files.old) (F.faults files.old) (F.faults files.new)
-        (K.written sink.old) (K.written sink.new) (K.faults sink.old) (K.faults sink.new)) result }
+    ensures runs { Runs (record {
+      words = map (λ word. string_bytes word) words.now;
+      file = λ name. record {
+        told = F.contents files.old name;
+        refusals = F.faults files.old name;
+        refusals_after = F.faults files.new name;
+      };
+      sink = record {
+        written = K.written sink.old;
+        written_after = K.written sink.new;
+        refusals = K.faults sink.old;
+        refusals_after = K.faults sink.new;
+      };
+    }) result }
     ensures contents { (file : List ℕ) → F.contents files.new file ≡ F.contents files.old file }
-    ensures certified { Certifies (meeting (map (λ word. string_bytes word) words.now)
-        (F.contents files.old) (F.faults files.old) (F.faults files.new)
-        (K.written sink.old) (K.written sink.new) (K.faults sink.old) (K.faults sink.new)) result }
-    ensures refused { Refuses (meeting (map (λ word. string_bytes word) words.now)
-        (F.contents files.old) (F.faults files.old) (F.faults files.new)
-        (K.written sink.old) (K.written sink.new) (K.faults sink.old) (K.faults sink.new)) result }
 {
-    at_most_one_specification();
-    certified_specifications_are_deterministic();
     match command_in(words) {
         Some(command) => act(alloc, command.action, command.file, files, sink),
         None => finish(sink, b"usage: rsml COMMAND WORDS\n", Status::Usage),

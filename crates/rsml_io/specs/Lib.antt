@@ -4,3 +4,4 @@ pub mod Writing
 pub mod SinkState
 pub mod Held
 pub mod FilesState
+pub mod SystemSink

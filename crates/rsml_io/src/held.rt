@@ -2,7 +2,7 @@ ghost use Rattle.std.specs.Prelude.{◌≡◌, ℕ, ◌+◌, ◌<◌, ◌≤◌,
 ghost use Rattle.std.specs.Option.{option_copied};
 ghost use Rattle.rsml_io.specs.Held.{named, file_of, faults_of, cut_of, uncut, ChangesFile, refused_once, reached, added};
 
-use rsml_syntax::{NoMemory, Text};
+use rsml_base::{NoMemory, Text};
 use std::alloc::Global;
 
 /// A file in memory, and what reads of it did.

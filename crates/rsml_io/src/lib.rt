@@ -19,6 +19,3 @@ pub use os::{OsFiles, OsSink};
 pub use read_error::ReadError;
 pub use sink::Sink;
 pub use whole::{read_all, write_all};
-
-#[cfg(test)]
-mod tests;

@@ -8,7 +8,7 @@ use crate::files::Files;
 use crate::held::{
     Cut, HeldFile, count_fault, count_reach, cut_of, file_of, piece_from, put, uncut,
 };
-use rsml_syntax::{NoMemory, Text};
+use rsml_base::{NoMemory, Text};
 use std::alloc::Global;
 use std::marker::Model;
 
@@ -78,8 +78,8 @@ impl MemoryFiles {
         Ok(())
     }
 
-    /// Has the reads of a file cut at a place, and those from there on refused. The last place for a
-    /// name counts.
+    /// Has the reads of a file cut at a place, and those from there on refused. The last place for
+    /// a name counts.
     pub fn fail_from(&mut self, name: &str, at: u64) -> Result<(), NoMemory>
         ensures ok { OnOk result (self.new ≡ record self.old {
           cuts = self.old.cuts ++ record { name = name.now; at = at } ∷ [];
@@ -168,7 +168,8 @@ impl Files for MemoryFiles {
 
         // Of this one: when a read is refused, what another gives, and what each leaves.
         ensures refusal { IsErr result ↔ Refuses self.old name.now at }
-        ensures given { IfOk result (λ n. take n into.new ≡ given self.old name.now at (length into.old)) }
+        ensures given { IfOk result (λ n.
+            take n into.new ≡ given self.old name.now at (length into.old)) }
         ensures ok { IfOk result (λ n. CountsRead self.old self.new name.now at n) }
         ensures err { OnErr result (CountsRefusal self.old self.new name.now) }
     {

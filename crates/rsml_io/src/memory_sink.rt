@@ -5,7 +5,7 @@ ghost use Rattle.rsml_io.specs.SinkState.{empty, Refuses, fitting};
 
 use crate::failed::Failed;
 use crate::sink::Sink;
-use rsml_syntax::NoMemory;
+use rsml_base::NoMemory;
 use std::alloc::Global;
 use std::marker::Model;
 

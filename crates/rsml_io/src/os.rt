@@ -1,4 +1,8 @@
-ghost use Rattle.std.specs.Prelude.{◌≡◌, None, IfOk, ◌≤◌, length};
+ghost use Rattle.std.specs.Prelude.{◌≡◌, ◌≢◌, ◌≤◌, [], None, IfOk, OnErr, length, take};
+ghost use Rattle.std.specs.Io.KnownBytes.{WriteAppends};
+ghost use Rattle.rsml_io.specs.Counts.{Rose};
+ghost use Rattle.rsml_io.specs.Writing.{appended};
+ghost use Rattle.rsml_io.specs.SystemSink.{written};
 
 use crate::failed::Failed;
 use crate::files::Files;
@@ -57,8 +61,8 @@ impl<R: rt::Files> Files for OsFiles<'_, R> {
     }
 }
 
-/// A writer of the system, as standard output. What was written is not told. Contracts see the count
-/// of refused writes.
+/// A writer of the system, as standard output. Contracts see the writer and the count of refused
+/// writes.
 #[derive(Drop)]
 pub struct OsSink<W> {
     out: W,
@@ -66,28 +70,42 @@ pub struct OsSink<W> {
 }
 
 impl<W> Model for OsSink<W> {
-    ghost use Rattle.std.specs.Prelude.{ℕ};
+    ghost use Rattle.rsml_io.specs.SystemSink.{SystemSink};
 
-    ghost Value = { ℕ };
+    ghost Value = { SystemSink W };
 
-    ghost view = { λ s. s.faults };
+    ghost view = { λ s. record { out = s.out; faults = s.faults } };
 }
 
 impl<W: Write + Drop> OsSink<W> {
     pub fn new(out: W) -> OsSink<W>
-        ensures { result ≡ 0 }
+        ensures { result ≡ record { out = out; faults = 0 } }
     {
         OsSink { out, faults: 0 }
     }
 }
 
 impl<W: Write + Drop> Sink for OsSink<W> {
-    ghost written = { λ _. None };
+    ghost written = { written };
 
-    ghost faults = { λ faults. faults };
+    ghost faults = { λ sink. sink.faults };
 
     /// A write that takes nothing of some bytes is a refused one.
-    fn write(&mut self, bytes: &[u8]) -> Result<usize, Failed> {
+    fn write(&mut self, bytes: &[u8]) -> Result<usize, Failed>
+        // What every sink promises.
+        ensures bound { IfOk result (λ n. n ≤ length bytes.now) }
+        ensures some { IfOk result (λ n. n ≡ 0 → bytes.now ≡ []) }
+        ensures written { IfOk result (λ n.
+            written self.new ≡ appended (written self.old) (take n bytes.now)) }
+        ensures cause { OnErr result (Rose self.old.faults self.new.faults) }
+        ensures unempty { OnErr result (bytes.now ≢ []) }
+        ensures unwritten { OnErr result (written self.new ≡ written self.old) }
+        ensures count { self.old.faults ≤ self.new.faults }
+
+        // Of this one: where it is known what the writer holds, that grew by the bytes taken.
+        ensures passed { WriteAppends
+            (W.contents self.old.out) (W.contents self.new.out) result bytes.now }
+    {
         if bytes.is_empty() {
             return Ok(0);
         }

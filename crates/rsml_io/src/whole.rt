@@ -13,8 +13,8 @@ use std::alloc::Global;
 /// How many bytes of a file are read at once.
 const PIECE: usize = 4096;
 
-/// Reads a file whole, if it has at most `limit` bytes. To see that it has more, it may read up to a
-/// piece past the limit.
+/// Reads a file whole, if it has at most `limit` bytes. To see that it has more, it may read up to
+/// a piece past the limit.
 pub fn read_all<F: Files>(
     alloc: Global,
     files: &mut F,

@@ -1,23 +1,21 @@
 -- The bytes of characters: what is ASCII in them is ASCII in the characters.
-use Rattle.std.proofs.Common.{◌≡◌, ℕ, zero, suc, ◌+◌, ◌-◌, ◌*◌, ◌/◌, ◌%◌, ◌<◌, ◌≤◌, Bool, true, false, cond, ◌||◌, ◌&&◌, ◌==◌, ◌⊎◌, inl, inr, List, [], ◌∷◌, ◌++◌, length, take, drop, Option, Some, None, find, nat_eq, nat_lt, get_or, refl, sym, ap, ◌∙◌, subst, arith, append_assoc, length-append}
+use Rattle.std.proofs.Common.{◌≡◌, ℕ, ◌+◌, ◌/◌, ◌%◌, ◌<◌, ◌≤◌, Bool, true, false, cond, ◌&&◌, ◌==◌, inl, inr, List, [], ◌∷◌, ◌++◌, length, drop, Some, find, nat_eq, nat_lt, refl, sym, ap, ◌∙◌, subst, arith}
 use Rattle.std.specs.Prelude.{if◌then◌else◌}
 use Rattle.std.specs.List.{list_all, starts_with}
 use Rattle.std.specs.Str.{encode_utf8_all, all_scalars, chars, IsUtf8, IsCharBoundary}
 use Rattle.std.proofs.lemmas.Bool.{cases_lt}
 use Rattle.std.proofs.lemmas.Bool.Decides.{nat_tests}
-use Rattle.std.proofs.lemmas.List.{drop_at, take_at, append-nil}
-use Rattle.std.proofs.lemmas.Str.{encode_ascii, encodes-append, encodes_same, chars_from_encodes, encodes-chars, scalars-chars, IsCharBoundary-from_drop}
+use Rattle.std.proofs.lemmas.Str.{encode_ascii, chars_from_encodes, encodes-chars, scalars-chars, IsCharBoundary-from_drop}
 use lib.Utf8.{encode, scalar}
-use Rattle.unicode_ident.proofs.IdentLemmas.{is_xid_continue-ascii}
-use Rattle.rsml_syntax.specs.Characters.{is_white, is_digit, is_continuing, digits_at}
-use Rattle.rsml_syntax.specs.Scanning.{after_blanks, after_comment, passing, after_passing}
-use Rattle.rsml_syntax.specs.Tokens.{first_is}
+use Rattle.rsml_syntax.specs.text.Characters.{is_white, is_digit}
+use Rattle.rsml_syntax.specs.text.Characters.{passing}
+use Rattle.rsml_syntax.specs.helpers.Scanning.{after_blanks, after_comment, after_passing}
 use Rattle.rsml_syntax.proofs.CharacterLemmas.{both}
 use Rattle.rsml_syntax.specs.declared.token.Mark.{Mark}
 use Rattle.rsml_syntax.specs.declared.token.Mark.TheVariants as mark
 use Rattle.rsml_syntax.specs.declared.token.TheConstants.{MARKS}
-use Rattle.rsml_syntax.specs.Marks as marks
-use Rattle.rsml_syntax.specs.Marks.{mark_at}
+use Rattle.rsml_syntax.specs.text.Marks as marks
+use Rattle.rsml_syntax.specs.text.Marks.{mark_at}
 use Rattle.rsml_lexer.specs.Bytes.{is_ascii_continuing}
 
 -- no byte is ASCII

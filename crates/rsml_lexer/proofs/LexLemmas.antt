@@ -1,21 +1,21 @@
 -- The answers of the lexer: what it says of each is what the text has.
-use Rattle.std.proofs.Common.{◌≡◌, ℕ, ◌-◌, ◌<◌, ◌≤◌, ◌⊎◌, inl, inr, true, List, length, take, Result, Ok, Err, Vec, Global, refl, sym, ap, ◌∙◌, subst, arith}
-use Rattle.std.specs.Str.{encode_utf8_all, all_scalars, chars, IsUtf8}
+use Rattle.std.proofs.Common.{◌≡◌, ℕ, ◌-◌, ◌<◌, ◌≤◌, inl, inr, List, length, Result, Ok, Err, Vec, Global, refl, sym, ap, ◌∙◌, subst, arith}
+use Rattle.std.specs.Str.{encode_utf8_all, chars, IsUtf8}
 use Rattle.std.specs.Str.Lossy.{utf8_valid_len}
 use Rattle.std.proofs.lemmas.List.{take_all, length-take-le}
 use Rattle.std.proofs.lemmas.Str.{encodes-chars, scalars-chars, utf8_valid_len_le, utf8_valid_len-IsUtf8}
 use Rattle.rsml_syntax.specs.declared.edition.Edition.{Edition}
 use Rattle.rsml_syntax.specs.declared.token.Placed.{Placed}
-use Rattle.rsml_syntax.specs.Lexing.{ScansWhole, Lexes, Fault, LexFault, front_of}
-use Rattle.rsml_syntax.specs.Lexing as faults
-use Rattle.rsml_syntax.specs.Scanning.{Front, TooBig, Bad, front}
+use Rattle.rsml_syntax.specs.text.Lexing.{ScansWhole, Lexes, Fault, LexFault, AreCharacters, utf8_prefix}
+use Rattle.rsml_syntax.specs.text.Lexing as faults
+use Rattle.rsml_syntax.specs.helpers.Scanning.{TooBig, Bad}
 use Rattle.rsml_syntax.proofs.ScanLemmas.{lexes_once, fault_once, lexes_or_faults, lexes_tokens, stuck_bad, stuck_big}
 use Rattle.rsml_lexer.specs.declared.fault.LexError.{LexError}
 use Rattle.rsml_lexer.specs.declared.fault.LexError.TheVariants as errors
-use Rattle.rsml_lexer.specs.Reading.{Takes, Reads, error_of, Lexed}
+use Rattle.rsml_lexer.specs.Answers.{Takes, Reads, error_of, Lexed}
 use Rattle.rsml_lexer.proofs.ScanSteps.{Reached, stuck_reached}
 
-pub all_valid : (bytes : List ℕ) → IsUtf8 bytes → bytes ≡ front_of bytes
+pub all_valid : (bytes : List ℕ) → IsUtf8 bytes → bytes ≡ utf8_prefix bytes
 all_valid bytes u = sym (take_all (utf8_valid_len bytes) bytes (omega (arith, utf8_valid_len-IsUtf8 bytes u)))
 
 -- an error at the front of what is left
@@ -80,27 +80,34 @@ no_memory_lexed e bytes = record {
     same_error : (a b : LexError) → (let x : Result (Vec Placed Global) LexError = Err a in x) ≡ Err b → a ≡ b
     same_error a b h = cc
 
--- the characters of the front
-front_is : (bytes text : List ℕ) → IsUtf8 text → text ≡ front_of bytes → front_of bytes ≡ encode_utf8_all (chars text)
-front_is bytes text u is = sym is ∙ sym (encodes-chars text u)
+-- the characters of the prefix
+prefix_is : (bytes text : List ℕ) → IsUtf8 text → text ≡ utf8_prefix bytes → utf8_prefix bytes ≡ encode_utf8_all (chars text)
+prefix_is bytes text u is = sym is ∙ sym (encodes-chars text u)
 
-pub broken_lexed : (e : Edition) (bytes text : List ℕ) (ts : List Placed) → IsUtf8 text → text ≡ front_of bytes → ScansWhole e (chars text) ts → length text < length bytes →
+pub broken_lexed : (e : Edition) (bytes text : List ℕ) (ts : List Placed) → IsUtf8 text → text ≡ utf8_prefix bytes → ScansWhole e (chars text) ts → length text < length bytes →
     Lexed e bytes (Err (errors.NotUtf8 (length text)))
 broken_lexed e bytes text ts u is h short =
     let at : length text ≡ utf8_valid_len bytes = ap length is ∙ length-take-le (utf8_valid_len bytes) bytes (utf8_valid_len_le bytes) in
-    fault_lexed e bytes (faults.NotUtf8 (length text)) (chars text, ts, scalars-chars text u, front_is bytes text u is, h, at, short)
+    fault_lexed e bytes (faults.NotUtf8 (length text)) (record {
+      cs = chars text;
+      tokens = ts;
+      characters = record { scalars = scalars-chars text u; encoded = prefix_is bytes text u is };
+      scanned = h;
+      offset = at;
+      within = short;
+    })
 
-pub whole_lexed : (e : Edition) (bytes text : List ℕ) (v : Vec Placed Global) → IsUtf8 text → text ≡ front_of bytes → ScansWhole e (chars text) v.items → length bytes ≤ length text →
+pub whole_lexed : (e : Edition) (bytes text : List ℕ) (v : Vec Placed Global) → IsUtf8 text → text ≡ utf8_prefix bytes → ScansWhole e (chars text) v.items → length bytes ≤ length text →
     Lexed e bytes (Ok v)
 whole_lexed e bytes text v u is h long =
     let at : length text ≡ utf8_valid_len bytes = ap length is ∙ length-take-le (utf8_valid_len bytes) bytes (utf8_valid_len_le bytes) in
-    let all : front_of bytes ≡ bytes = take_all (utf8_valid_len bytes) bytes (omega (arith, at, long)) in
-    tokens_lexed e bytes v (chars text, scalars-chars text u, sym all ∙ front_is bytes text u is, h)
+    let all : utf8_prefix bytes ≡ bytes = take_all (utf8_valid_len bytes) bytes (omega (arith, at, long)) in
+    tokens_lexed e bytes v (chars text, scalars-chars text u, sym all ∙ prefix_is bytes text u is, h)
 
-pub error_lexed : (e : Edition) (bytes text : List ℕ) (error : LexError) → IsUtf8 text → text ≡ front_of bytes → Reads e (chars text) (Err error) → Lexed e bytes (Err error)
+pub error_lexed : (e : Edition) (bytes text : List ℕ) (error : LexError) → IsUtf8 text → text ≡ utf8_prefix bytes → Reads e (chars text) (Err error) → Lexed e bytes (Err error)
 error_lexed e bytes text (errors.NotUtf8 at) u is h = absurd h
 error_lexed e bytes text (errors.BadCharacter at) u is h =
-    fault_lexed e bytes (faults.BadCharacter at) (stuck_bad e bytes (chars text) at (scalars-chars text u) (front_is bytes text u is) h)
+    fault_lexed e bytes (faults.BadCharacter at) (stuck_bad e bytes (chars text) at (scalars-chars text u) (prefix_is bytes text u is) h)
 error_lexed e bytes text (errors.NumberTooBig at) u is h =
-    fault_lexed e bytes (faults.NumberTooBig at) (stuck_big e bytes (chars text) at (scalars-chars text u) (front_is bytes text u is) h)
+    fault_lexed e bytes (faults.NumberTooBig at) (stuck_big e bytes (chars text) at (scalars-chars text u) (prefix_is bytes text u is) h)
 error_lexed e bytes text errors.NoMemory u is h = no_memory_lexed e bytes

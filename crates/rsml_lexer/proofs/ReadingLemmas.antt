@@ -1,15 +1,13 @@
 -- What the reader of tokens needs of words and numbers.
-use Rattle.std.proofs.Common.{◌≡◌, ℕ, ◌+◌, ◌-◌, ◌*◌, ◌<◌, ◌≤◌, Bool, true, false, cond, ◌&&◌, ◌==◌, List, [], ◌∷◌, length, drop, Option, Some, None, find, filter, nat_eq, get_or, refl, sym, ap, ◌∙◌, subst, arith}
+use Rattle.std.proofs.Common.{◌≡◌, ℕ, ◌+◌, ◌-◌, ◌*◌, ◌<◌, ◌≤◌, Bool, true, false, cond, ◌==◌, List, [], ◌∷◌, length, drop, Some, None, find, filter, get_or, refl, sym, ap, ◌∙◌, subst, arith}
 use Rattle.std.specs.List.{slice_get}
 use Rattle.std.specs.Str.{bytes_eq}
-use Rattle.std.proofs.lemmas.Bool.Decides.{nat_tests}
 use Rattle.std.proofs.lemmas.List.{drop_more}
 use Rattle.std.proofs.lemmas.Option.{same_Some}
-use Rattle.rsml_syntax.specs.declared.token.Word.{Word}
 use Rattle.rsml_syntax.specs.declared.token.TheConstants.{WORDS}
-use Rattle.rsml_syntax.specs.Characters.{digits_value, digits_value_from}
-use Rattle.rsml_syntax.specs.Tokens.{first_is, greatest_number}
-use Rattle.rsml_syntax.specs.Words.{spelling, word_of}
+use Rattle.rsml_syntax.specs.text.Characters.{digits_value, digits_value_from}
+use Rattle.rsml_syntax.specs.text.Tokens.{first_is, greatest_number}
+use Rattle.rsml_syntax.specs.text.Words.{spelling, word_of}
 use Rattle.rsml_lexer.specs.Bytes.{words_from}
 
 -- Words.

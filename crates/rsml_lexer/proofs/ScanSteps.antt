@@ -1,20 +1,18 @@
 -- Reading all tokens of a text, one after another.
-use Rattle.std.proofs.Common.{◌≡◌, ℕ, ◌+◌, ◌-◌, ◌<◌, ◌≤◌, ◌⊎◌, inl, inr, Bool, ◌==◌, true, false, List, [], ◌∷◌, ◌++◌, length, take, drop, Result, Ok, Err, Vec, Global, refl, sym, ap, ◌∙◌, subst, arith, length-append}
+use Rattle.std.proofs.Common.{◌≡◌, ℕ, ◌+◌, ◌-◌, ◌<◌, ◌≤◌, Bool, ◌==◌, true, false, List, [], ◌∷◌, ◌++◌, length, drop, refl, sym, ap, ◌∙◌, subst, arith, length-append}
 use Rattle.std.proofs.lemmas.Bool.Decides.{nat_tests}
 use Rattle.std.specs.Str.{encode_utf8_all, all_scalars, chars, IsUtf8, IsCharBoundary}
-use Rattle.std.specs.Str.Lossy.{utf8_valid_len}
 use Rattle.std.proofs.lemmas.List.{drop_at, length-drop}
-use Rattle.std.proofs.lemmas.Str.{encodes-append, chars-encodes, encodes-chars, scalars-chars, length-le-encodes, utf8_valid_len_le, IsCharBoundary-from_drop, chars-nil}
+use Rattle.std.proofs.lemmas.Str.{encodes-append, chars-encodes, encodes-chars, scalars-chars, length-le-encodes, IsCharBoundary-from_drop, chars-nil}
 use Rattle.rsml_syntax.specs.declared.edition.Edition.{Edition}
 use Rattle.rsml_syntax.specs.declared.token.Placed.{Placed}
 use Rattle.rsml_syntax.specs.declared.token.Token.{Token}
-use Rattle.rsml_syntax.specs.Characters.{are_blanks}
-use Rattle.rsml_syntax.specs.Lexing.{bytes_of, Scans, ScansWhole, Lexes, Fault, LexFault, bare, front_of}
-use Rattle.rsml_syntax.specs.Lexing as faults
-use Rattle.rsml_syntax.specs.Scanning.{after_blanks, Front, Nothing, Cut, TooBig, Bad, front, next, Stuck}
-use Rattle.rsml_syntax.specs.Tokens.{Spells, ends}
+use Rattle.rsml_syntax.specs.text.Characters.{are_blanks}
+use Rattle.rsml_syntax.specs.text.Lexing.{bytes_of, Scans, ScansWhole}
+use Rattle.rsml_syntax.specs.helpers.Scanning.{after_blanks, Front, Cut, front, Stuck}
+use Rattle.rsml_syntax.specs.text.Tokens.{Spells, ends}
 use Rattle.rsml_syntax.proofs.FrontLemmas.{Means, front_means, token_cut}
-use Rattle.rsml_syntax.proofs.ScanLemmas.{bytes_of-append, next_token, token_next, scans_bytes, scans_whole, scalars_apart, after_within, lexes_once, fault_once, lexes_or_faults, lexes_tokens, stuck_bad, stuck_big, whole_or_broken}
+use Rattle.rsml_syntax.proofs.ScanLemmas.{bytes_of-append, next_token, scans_bytes, scans_whole, scalars_apart, after_within}
 use Rattle.rsml_lexer.proofs.ByteLemmas.{blanks_text}
 
 placed : Token → ℕ → Placed

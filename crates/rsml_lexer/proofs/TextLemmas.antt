@@ -1,30 +1,31 @@
 -- What the reader of tokens needs of a text and its characters.
-use Rattle.std.proofs.Common.{◌≡◌, ℕ, zero, suc, ◌+◌, ◌-◌, ◌<◌, ◌≤◌, Bool, true, false, cond, ◌&&◌, ◌||◌, ◌==◌, ◌⊎◌, inl, inr, List, [], ◌∷◌, ◌++◌, length, take, drop, Option, Some, None, nat_le, get_or, refl, sym, ap, ◌∙◌, subst, arith, append_assoc, add-zero, length-append}
+use Rattle.std.proofs.Common.{◌≡◌, ℕ, ◌+◌, ◌<◌, ◌≤◌, Bool, true, false, List, [], ◌∷◌, ◌++◌, length, take, drop, Some, None, nat_le, get_or, refl, sym, ap, ◌∙◌, subst, arith, append_assoc, add-zero, length-append}
 use Rattle.std.specs.Prelude.{if◌then◌else◌}
 use Rattle.std.specs.Char.{len_utf8}
 use Rattle.std.specs.List.{list_all}
 use Rattle.std.specs.Str.{encode_utf8_all, all_scalars, chars, IsUtf8, IsCharBoundary}
 use Rattle.std.proofs.Math.Seq.{take-add}
 use Rattle.std.proofs.lemmas.Bool.Decides.{nat_tests}
-use Rattle.std.proofs.lemmas.List.{append-nil, take_at, drop_at, length-take-le, length-drop, get_or-drop}
-use Rattle.std.proofs.lemmas.Str.{encodes-append, chars-encodes, chars_from_encodes, encodes-chars, scalars-chars, cons_from_encodes, length-encode, len_utf8_bounds, char_from_byte, IsCharBoundary-from_drop}
+use Rattle.std.proofs.lemmas.List.{append-nil, take_at, length-take-le, length-drop, get_or-drop}
+use Rattle.std.proofs.lemmas.Str.{encodes-append, chars-encodes, encodes-chars, scalars-chars, cons_from_encodes, length-encode, len_utf8_bounds, char_from_byte, IsCharBoundary-from_drop}
 use lib.Utf8.{encode}
 use Rattle.unicode_ident.proofs.IdentLemmas.{is_xid_continue-ascii}
 use Rattle.rsml_syntax.specs.declared.edition.Edition.{Edition}
 use Rattle.rsml_syntax.specs.declared.token.Mark.{Mark}
 use Rattle.rsml_syntax.specs.declared.token.Token.{Token}
 use Rattle.rsml_syntax.specs.declared.token.Token.TheVariants as token
-use Rattle.rsml_syntax.specs.Characters.{is_start, is_continuing, is_digit, digits_at, digits_value}
-use Rattle.rsml_syntax.specs.Lexing.{bytes_of}
-use Rattle.rsml_syntax.specs.Marks as marks
-use Rattle.rsml_syntax.specs.Marks.{mark_at}
-use Rattle.rsml_syntax.specs.Scanning.{passing, after_passing, named, Front, Cut, TooBig, Bad, front, front_named, front_number, front_marked}
-use Rattle.rsml_syntax.specs.Tokens.{first_is, greatest_number}
-use Rattle.rsml_syntax.proofs.CharacterLemmas.{both, split_whole, split_passes, split_ends, split_again, digits_split}
+use Rattle.rsml_syntax.specs.text.Characters.{is_start, is_continuing, is_digit, digits_at, digits_value}
+use Rattle.rsml_syntax.specs.text.Lexing.{bytes_of}
+use Rattle.rsml_syntax.specs.text.Marks as marks
+use Rattle.rsml_syntax.specs.text.Marks.{mark_at}
+use Rattle.rsml_syntax.specs.text.Characters.{passing}
+use Rattle.rsml_syntax.specs.helpers.Scanning.{after_passing, named, Cut, TooBig, Bad, front, front_named, front_number, front_marked}
+use Rattle.rsml_syntax.specs.text.Tokens.{first_is, greatest_number}
+use Rattle.rsml_syntax.proofs.CharacterLemmas.{both, split_whole, split_passes, split_ends, split_again}
 use Rattle.rsml_syntax.proofs.WordLemmas.{mark_spelled}
 use Rattle.rsml_lexer.specs.Bytes.{is_ascii_continuing}
-use Rattle.rsml_lexer.specs.Reading.{IsNumber}
-use Rattle.rsml_lexer.proofs.ByteLemmas.{Split, split_bytes, digit_low, continuing_low, mark_bytes}
+use Rattle.rsml_lexer.specs.Answers.{IsNumber}
+use Rattle.rsml_lexer.proofs.ByteLemmas.{split_bytes, digit_low, continuing_low, mark_bytes}
 
 -- The length of a name.
 
@@ -192,11 +193,10 @@ name_front e text len t u le start taken is = step (chars text) refl
 digits_bytes : (text : List ℕ) → IsUtf8 text → (digits_at text ≡ digits_at (chars text)) × (bytes_of (digits_at (chars text)) ≡ length (digits_at (chars text)))
 digits_bytes text u =
     let s = split_bytes is_digit (chars text) digit_low in
-    let d = digits_split (chars text) in
-    (digits_split text ∙ ap (passing is_digit) (sym (encodes-chars text u)) ∙ s.front ∙ sym d, ap bytes_of d ∙ ap length s.same ∙ ap length (sym d))
+    (ap (passing is_digit) (sym (encodes-chars text u)) ∙ s.front, ap length s.same)
 
 pub digits_are : (bytes : List ℕ) (len : ℕ) → take len bytes ≡ digits_at bytes → list_all is_digit (take len bytes) ≡ true
-digits_are bytes len h = ap (list_all is_digit) (h ∙ digits_split bytes) ∙ split_passes is_digit bytes
+digits_are bytes len h = ap (list_all is_digit) h ∙ split_passes is_digit bytes
 
 digits_some : (c : ℕ) (cs : List ℕ) → 0 < length (digits_at (c ∷ cs)) → is_digit c ≡ true
 digits_some c cs some = elim (is_digit c) as (λ b. 0 < length (if b then c ∷ digits_at cs else []) → b ≡ true) [ true ↦ λ h. refl | false ↦ λ h. absurd (omega arith) ] some

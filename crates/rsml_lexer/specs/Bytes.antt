@@ -3,8 +3,8 @@ use Rattle.std.specs.Prelude.{ℕ, Bool, ◌||◌, ◌==◌, List, filter}
 use Rattle.std.specs.Char.{is_ascii_alphanumeric}
 use Rattle.rsml_syntax.specs.declared.token.Word.{Word}
 use Rattle.rsml_syntax.specs.declared.token.TheConstants.{WORDS}
-use Rattle.rsml_syntax.specs.Tokens.{first_is}
-use Rattle.rsml_syntax.specs.Words.{spelling}
+use Rattle.rsml_syntax.specs.text.Tokens.{first_is}
+use Rattle.rsml_syntax.specs.text.Words.{spelling}
 
 -- a byte of ASCII that may follow in a name
 abbrev pub is_ascii_continuing : ℕ → Bool

@@ -2,7 +2,7 @@
 use Rattle.std.specs.Prelude.{◌≡◌, ◌⊎◌, ℕ, List}
 use Rattle.rsml_syntax.specs.declared.edition.Edition.{Edition}
 use Rattle.rsml_syntax.specs.declared.token.Placed.{Placed}
-use Rattle.rsml_syntax.specs.Lexing.{Lexes, Fault, LexFault}
+use Rattle.rsml_syntax.specs.text.Lexing.{Lexes, Fault, LexFault}
 
 -- a text has at most one token list
 abbrev pub AtMostOneTokenList : Type 0

@@ -1,3 +1,3 @@
 pub mod Bytes
 pub mod Laws
-pub mod Reading
+pub mod Answers

@@ -1,6 +1,6 @@
 ghost use Rattle.std.specs.Prelude.{◌≡◌, ◌≤◌, length, drop};
-ghost use Rattle.rsml_syntax.specs.Characters as spec;
-ghost use Rattle.rsml_syntax.specs.Scanning as scanning;
+ghost use Rattle.rsml_syntax.specs.text.Characters as spec;
+ghost use Rattle.rsml_syntax.specs.helpers.Scanning as scanning;
 
 fn is_white(byte: u8) -> bool
     ensures { result ≡ spec.is_white byte }

@@ -1,7 +1,7 @@
 ghost use Rattle.std.specs.Prelude.{◌≡◌, ◌<◌, length, IfOk};
 ghost use Rattle.std.specs.Str.{chars};
-ghost use Rattle.rsml_syntax.specs.Scanning as scanning;
-ghost use Rattle.rsml_lexer.specs.Reading.{Takes};
+ghost use Rattle.rsml_syntax.specs.helpers.Scanning as scanning;
+ghost use Rattle.rsml_lexer.specs.Answers.{Takes};
 
 use crate::fault::LexError;
 use crate::keywords::{is_reserved, word_of};
@@ -19,7 +19,7 @@ pub(crate) struct Taken {
 }
 
 /// The reserved word or the name that is written so.
-#[tactic(auto, unfolding(rsml_syntax::specs::Scanning::named))]
+#[tactic(auto, unfolding(rsml_syntax::specs::helpers::Scanning::named))]
 fn named(alloc: Global, edition: Edition, name: &[u8]) -> Result<Token, NoMemory>
     ensures { IfOk result (λ t. t ≡ scanning.named edition name.now) }
 {

@@ -1,13 +1,13 @@
 ghost use Rattle.std.specs.Prelude.{◌≡◌, find};
 ghost use Rattle.std.specs.Str.{bytes_eq};
-ghost use Rattle.rsml_syntax.specs.Tokens as tokens;
-ghost use Rattle.rsml_syntax.specs.Words as spec;
+ghost use Rattle.rsml_syntax.specs.text.Tokens as tokens;
+ghost use Rattle.rsml_syntax.specs.text.Words as spec;
 ghost use Rattle.rsml_lexer.specs.Bytes as bytes;
 
 use rsml_syntax::{Edition, Word};
 
 /// The reserved words that begin with a byte.
-#[tactic(auto, unfolding(crate::specs::Bytes::words_from, rsml_syntax::specs::Words::spelling))]
+#[tactic(auto, unfolding(crate::specs::Bytes::words_from, rsml_syntax::specs::text::Words::spelling))]
 fn words_from(first: u8) -> &'static [Word]
     ensures { result.now ≡ bytes.words_from first }
 {

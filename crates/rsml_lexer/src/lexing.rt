@@ -2,9 +2,11 @@ ghost use Rattle.std.specs.Prelude.{◌≡◌, ◌≤◌, ℕ, List, length, vec
 ghost use Rattle.std.specs.Str.{chars};
 ghost use Rattle.rsml_syntax.specs.declared.edition.Edition.TheVariants.{First, Second};
 ghost use Rattle.rsml_syntax.specs.declared.token.Placed.{Placed};
-ghost use Rattle.rsml_syntax.specs.Lexing.{Lexes, LexFault, Fault, bare, front_of};
-ghost use Rattle.rsml_syntax.specs.Tokens.{AreTokens};
-ghost use Rattle.rsml_lexer.specs.Reading.{Reads, Lexed, Gives, Fails, Names};
+ghost use Rattle.rsml_syntax.specs.text.Lexing.{Lexes, LexFault, Fault, bare};
+ghost use Rattle.rsml_syntax.specs.text.Lexing as spec;
+ghost use Rattle.rsml_syntax.specs.text.Tokens.{AreTokens};
+ghost use Rattle.rsml_lexer.specs.declared.lexing.TheConstants.{GREATEST_TEXT};
+ghost use Rattle.rsml_lexer.specs.Answers.{Reads, Lexed, Gives, Fails, Names};
 
 use crate::blanks::after_blanks;
 use crate::fault::LexError;
@@ -13,9 +15,12 @@ use rsml_syntax::{Edition, Placed};
 use std::alloc::Global;
 use std::str;
 
-/// The longest front that is UTF-8.
-fn utf8_front(bytes: &[u8]) -> &str
-    ensures { result.now ≡ front_of bytes.now }
+/// How many bytes a text may have.
+pub const GREATEST_TEXT: usize = 1_048_576;
+
+/// The longest prefix that is UTF-8.
+fn utf8_prefix(bytes: &[u8]) -> &str
+    ensures { result.now ≡ spec.utf8_prefix bytes.now }
 {
     match str::from_utf8(bytes) {
         Ok(text) => text,
@@ -28,7 +33,7 @@ fn utf8_front(bytes: &[u8]) -> &str
 
 /// The tokens of a text.
 fn tokens_of(alloc: Global, edition: Edition, text: &str) -> Result<Vec<Placed>, LexError>
-    requires { length text.now ≤ 1048576 }
+    requires { length text.now ≤ GREATEST_TEXT }
     ensures { Reads edition (chars text.now) result }
 {
     let mut found = Vec::new(alloc);
@@ -51,15 +56,15 @@ fn tokens_of(alloc: Global, edition: Edition, text: &str) -> Result<Vec<Placed>,
 
 /// Reads a text by the words of an edition.
 fn lex_as(alloc: Global, edition: Edition, text: &[u8]) -> Result<Vec<Placed>, LexError>
-    requires { length text.now ≤ 1048576 }
+    requires { length text.now ≤ GREATEST_TEXT }
     ensures { Lexed edition text.now result }
 {
-    let front = utf8_front(text);
-    match tokens_of(alloc, edition, front) {
+    let prefix = utf8_prefix(text);
+    match tokens_of(alloc, edition, prefix) {
         Ok(found) => {
-            if front.len() < text.len() {
+            if prefix.len() < text.len() {
                 return Err(LexError::NotUtf8 {
-                    at: front.len() as u32,
+                    at: prefix.len() as u32,
                 });
             }
             Ok(found)
@@ -70,7 +75,7 @@ fn lex_as(alloc: Global, edition: Edition, text: &[u8]) -> Result<Vec<Placed>, L
 
 /// The tokens of a text, each with the offset in bytes at which it begins, or the text's first fault.
 pub fn lex(alloc: Global, text: &[u8]) -> Result<Vec<Placed>, LexError>
-    requires { length text.now ≤ 1048576 }
+    requires { length text.now ≤ GREATEST_TEXT }
     ensures ok { IfOk result (λ v. Lexes Second text.now v.items) }
     // Each fault is the first one of the text, at its offset.
     ensures fault { (f : Fault) → Names result f → LexFault Second text.now f }
@@ -85,7 +90,7 @@ pub fn lex(alloc: Global, text: &[u8]) -> Result<Vec<Placed>, LexError>
 
 /// `lex` for the first edition, in which `previous` is a name like any other.
 pub fn lex_edition_1(alloc: Global, text: &[u8]) -> Result<Vec<Placed>, LexError>
-    requires { length text.now ≤ 1048576 }
+    requires { length text.now ≤ GREATEST_TEXT }
     ensures ok { IfOk result (λ v. Lexes First text.now v.items) }
     ensures fault { (f : Fault) → Names result f → LexFault First text.now f }
     ensures only_ok { (ts : List Placed) → Lexes First text.now ts → Gives ts result }

@@ -10,9 +10,7 @@ mod lexing;
 mod names;
 mod numbers;
 mod punctuation;
-#[cfg(test)]
-mod tests;
 
 pub use fault::LexError;
 pub use laws::{always_one, at_most_one_first_fault, at_most_one_token_list, never_both};
-pub use lexing::{lex, lex_edition_1};
+pub use lexing::{GREATEST_TEXT, lex, lex_edition_1};

@@ -1,9 +1,10 @@
 ghost use Rattle.std.specs.Prelude.{◌≡◌, ◌≤◌, ◌||◌, ◌==◌, length, take, drop};
 ghost use Rattle.std.specs.Char.{is_ascii_alphanumeric};
 ghost use Rattle.std.specs.Str.{chars, encode_utf8_all};
-ghost use Rattle.rsml_syntax.specs.Characters as spec;
-ghost use Rattle.rsml_syntax.specs.Scanning.{passing, after_passing};
-ghost use Rattle.rsml_syntax.specs.Tokens.{first_is};
+ghost use Rattle.rsml_syntax.specs.text.Characters as spec;
+ghost use Rattle.rsml_syntax.specs.text.Characters.{passing};
+ghost use Rattle.rsml_syntax.specs.helpers.Scanning.{after_passing};
+ghost use Rattle.rsml_syntax.specs.text.Tokens.{first_is};
 ghost use Rattle.rsml_lexer.specs.Bytes.{is_ascii_continuing};
 
 use unicode_ident::{is_xid_continue, is_xid_start};

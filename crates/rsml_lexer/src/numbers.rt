@@ -1,7 +1,7 @@
 ghost use Rattle.std.specs.Prelude.{◌≡◌, ◌≤◌, length, take, IsTrue};
 ghost use Rattle.std.specs.List.{list_all};
-ghost use Rattle.rsml_syntax.specs.Characters as spec;
-ghost use Rattle.rsml_lexer.specs.Reading.{IsNumber};
+ghost use Rattle.rsml_syntax.specs.text.Characters as spec;
+ghost use Rattle.rsml_lexer.specs.Answers.{IsNumber};
 
 /// The greatest number that may be written.
 const GREATEST: u64 = 1_000_000_000;

@@ -1,6 +1,6 @@
 ghost use Rattle.std.specs.Prelude.{◌≡◌, [], ◌∷◌, nat_eq};
 ghost use Rattle.std.specs.List.{starts_with};
-ghost use Rattle.rsml_syntax.specs.Marks as spec;
+ghost use Rattle.rsml_syntax.specs.text.Marks as spec;
 
 use rsml_syntax::Mark;
 
@@ -15,7 +15,7 @@ fn begins(bytes: &[u8], byte: u8) -> bool
 }
 
 /// The longest mark at the front, if any.
-#[tactic(auto, unfolding(rsml_syntax::specs::Marks::mark_at, rsml_syntax::specs::Marks::spelling))]
+#[tactic(auto, unfolding(rsml_syntax::specs::text::Marks::mark_at, rsml_syntax::specs::text::Marks::spelling))]
 pub(crate) fn mark_at(bytes: &[u8]) -> Option<Mark>
     ensures { result ≡ spec.mark_at bytes.now }
 {

@@ -2,7 +2,7 @@
 use Rattle.std.proofs.Common.{◌≡◌, List, ◌∷◌, ◌++◌, map, flat_map, Some, refl, ap, ◌∙◌}
 use Rattle.rsml_syntax.specs.declared.syntax.StateDecl.{StateDecl}
 use Rattle.rsml_syntax.specs.declared.syntax.Body.{Body, One, One', All, All', Row_of-StateDecl, end_of-StateDecl, more_of-StateDecl, items-the_row-StateDecl, items_hidden-the_row-StateDecl-0}
-use Rattle.rsml_syntax.specs.Globals.{Globals, indices}
+use Rattle.rsml_syntax.specs.rules.Globals.{Globals, indices}
 use Rattle.rsml_meaning.specs.Words.{Path, at, child_path}
 use Rattle.rsml_meaning.specs.Instances.{new_component, new_state, row_names, inside, row_inside, child_states}
 use Rattle.rsml_meaning.specs.Laws.{StatesAreOfChildren}

@@ -6,7 +6,7 @@ use Rattle.rsml_syntax.specs.declared.syntax.Value.{Value}
 use Rattle.rsml_syntax.specs.declared.syntax.Value.TheVariants as values
 use Rattle.rsml_syntax.specs.declared.syntax.Answer.{Answer}
 use Rattle.rsml_syntax.specs.declared.syntax.Answer.TheVariants as answers
-use Rattle.rsml_syntax.specs.Comparisons.{Reading}
+use Rattle.rsml_syntax.specs.limits.Comparisons.{Indices}
 use Rattle.rsml_meaning.specs.Words.{Instance}
 use Rattle.rsml_meaning.specs.Instances.{Component, components}
 use Rattle.rsml_meaning.specs.Truth.{View, view, within, sum, instance}
@@ -23,11 +23,11 @@ abbrev pub first_or : {A : Type 0} → A → List A → A
 first_or y [] = y
 first_or y (x ∷ xs) = x
 
-abbrev pub value_in : View → Reading → Value → ℤ
+abbrev pub value_in : View → Indices → Value → ℤ
 value_in v r (values.Sum x) = sum v r x
 value_in v r (values.Function f) = first_or (pos 0) (v.gives (instance v.names r f))
 
-abbrev pub values_in : View → Reading → Answer → List ℤ
+abbrev pub values_in : View → Indices → Answer → List ℤ
 values_in v r answers.Quiet = []
 values_in v r (answers.Values xs) = map (value_in v r) xs
 
@@ -43,8 +43,8 @@ choice_after taken c = first_or c.1 (outcomes taken c.0 c.1)
 abbrev pub world_after : Spec → World → List TransitionInstance → World
 world_after s w taken = record { choices = map (choice_after taken) (zip (components s) w.choices); cells = w.cells }
 
-abbrev pub round_by : List Instance → List TransitionInstance → List Sent → Round
-round_by present taken sent = record { present = present; taken = taken; sent = sent }
+abbrev pub round_by : World → List Instance → List TransitionInstance → List Sent → Round
+round_by w present taken sent = record { world = w; present = present; taken = taken; sent = sent }
 
 -- at most n rounds from a world with present events, and the world that they leave
 abbrev pub rounds_from : ℕ → Spec → World → List Instance → List Round × World
@@ -54,13 +54,13 @@ rounds_from (suc n) s w (e ∷ es) =
     let v = view s w in
     let taken = enabled_transitions s v (e ∷ es) in
     let rest = rounds_from n s (world_after s w taken) (raised_by s taken) in
-    (round_by (e ∷ es) taken (sent_by s v (e ∷ es)) ∷ rest.0, rest.1)
+    (round_by w (e ∷ es) taken (sent_by s v (e ∷ es)) ∷ rest.0, rest.1)
 
 abbrev pub run_from : ℕ → Spec → World → List Message → List Reaction
 run_from n s w [] = []
 run_from n s w (m ∷ ms) =
     let done = rounds_from n s (latched s w m) (m.receive.raised ∷ []) in
-    record { receive = m.receive.receive; rounds = done.0 } ∷ run_from n s done.1 ms
+    record { receive = m.receive.receive; rounds = done.0; world = done.1 } ∷ run_from n s done.1 ms
 
 -- the run of these messages, with at most 8 rounds a step
 abbrev pub run_of : Spec → List Message → List Reaction

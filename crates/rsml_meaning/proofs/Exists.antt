@@ -8,14 +8,14 @@ use Rattle.rsml_syntax.specs.declared.syntax.Value.{Value}
 use Rattle.rsml_syntax.specs.declared.syntax.Value.TheVariants as values
 use Rattle.rsml_syntax.specs.declared.syntax.Answer.{Answer}
 use Rattle.rsml_syntax.specs.declared.syntax.Answer.TheVariants as answers
-use Rattle.rsml_syntax.specs.Comparisons.{Reading}
+use Rattle.rsml_syntax.specs.limits.Comparisons.{Indices}
 use Rattle.rsml_meaning.specs.Words.{Each, IsOne, AllThree, Instance}
 use Rattle.rsml_meaning.specs.Instances.{Component, components}
 use Rattle.rsml_meaning.specs.Active.{child_place}
 use Rattle.rsml_meaning.specs.Truth.{View, view, within, instance, Gives}
 use Rattle.rsml_meaning.specs.Transitions.{TransitionInstance}
 use Rattle.rsml_meaning.specs.Interfaces.{SendCaseInstance}
-use Rattle.rsml_meaning.specs.Steps.{Micro, Sent, IsValue, AreValues, outcomes, or_kept, given_by, enabled_transitions, enabled_sends, raised_by, IsStep}
+use Rattle.rsml_meaning.specs.Steps.{Micro, Sent, IsValue, AreValues, outcomes, or_kept, given_by, enabled_transitions, enabled_sends, raised_by, IsRound, IsStep}
 use Rattle.rsml_meaning.specs.EventLines.{Bytes, Message}
 use Rattle.rsml_meaning.specs.EventFiles.{messages, lines_of}
 use Rattle.rsml_meaning.specs.Runs.{first_world, latched, IsRunFrom}
@@ -29,15 +29,15 @@ gives_first : (v : View) (f : Instance) (xs : List ℤ) → v.gives f ≡ xs →
 gives_first v f [] e = inr (e, refl)
 gives_first v f (x ∷ xs) e = inl (subst (λ ys. IsOne x ys) (sym e) (inl refl))
 
-value_right : (v : View) (r : Reading) (x : Value) → IsValue v r x (value_in v r x)
+value_right : (v : View) (r : Indices) (x : Value) → IsValue v r x (value_in v r x)
 value_right v r (values.Sum x) = refl
 value_right v r (values.Function f) = gives_first v (instance v.names r f) (v.gives (instance v.names r f)) refl
 
-values_right : (v : View) (r : Reading) (xs : List Value) → AllZip (IsValue v r) xs (map (value_in v r) xs)
+values_right : (v : View) (r : Indices) (xs : List Value) → AllZip (IsValue v r) xs (map (value_in v r) xs)
 values_right v r [] = tt
 values_right v r (x ∷ xs) = (value_right v r x, values_right v r xs)
 
-answer_right : (v : View) (r : Reading) (x : Answer) → AreValues v r x (values_in v r x)
+answer_right : (v : View) (r : Indices) (x : Answer) → AreValues v r x (values_in v r x)
 answer_right v r answers.Quiet = refl
 answer_right v r (answers.Values xs) = values_right v r xs
 
@@ -74,7 +74,7 @@ still_fit ts (c ∷ cs) (n ∷ ns) h = still_fit ts cs ns h
 still_fit ts [] (n ∷ ns) h = absurd (true≢false (sym h))
 still_fit ts (c ∷ cs) [] h = absurd (true≢false (sym h))
 
-first_fits : (cs : List Component) → fits cs (map (λ c. child_place c c.first) cs) ≡ true
+first_fits : (cs : List Component) → fits cs (map (λ c. child_place c c.default) cs) ≡ true
 first_fits [] = refl
 first_fits (c ∷ cs) = first_fits cs
 
@@ -97,6 +97,10 @@ micro_is s w present raised h e = record {
   all_raised = e;
 }
 
+round_is : (s : Spec) (w : World) (present raised : List Instance) → fits (components s) w.choices ≡ true → raised ≡ raised_by s (taken_in s w present)
+    → IsRound s w present (round_by w present (taken_in s w present) (sent_by s (view s w) present)) (after s w present) raised
+round_is s w present raised h e = record { world = refl; events = refl; micro = micro_is s w present raised h e }
+
 not_empty : (f : Instance) (fs : List Instance) → f ∷ fs ≡ [] → ⊥
 not_empty f fs e = cc
 
@@ -106,11 +110,11 @@ IsStepFrom n s w present = IsStep s w present (rounds_from n s w present).0 (rou
 one_more : (n : ℕ) (s : Spec) (w : World) (e : Instance) (es raised : List Instance) → fits (components s) w.choices ≡ true
     → raised ≡ raised_by s (taken_in s w (e ∷ es)) → ends_within n s (after s w (e ∷ es)) raised ≡ true
     → ((f : Instance) (fs : List Instance) → ends_within n s (after s w (e ∷ es)) (f ∷ fs) ≡ true → IsStepFrom n s (after s w (e ∷ es)) (f ∷ fs))
-    → IsStep s w (e ∷ es) (round_by (e ∷ es) (taken_in s w (e ∷ es)) (sent_by s (view s w) (e ∷ es)) ∷ (rounds_from n s (after s w (e ∷ es)) raised).0) (rounds_from n s (after s w (e ∷ es)) raised).1
-one_more zero s w e es [] h q ends more = (refl, micro_is s w (e ∷ es) [] h q)
-one_more (suc n) s w e es [] h q ends more = (refl, micro_is s w (e ∷ es) [] h q)
+    → IsStep s w (e ∷ es) (round_by w (e ∷ es) (taken_in s w (e ∷ es)) (sent_by s (view s w) (e ∷ es)) ∷ (rounds_from n s (after s w (e ∷ es)) raised).0) (rounds_from n s (after s w (e ∷ es)) raised).1
+one_more zero s w e es [] h q ends more = round_is s w (e ∷ es) [] h q
+one_more (suc n) s w e es [] h q ends more = round_is s w (e ∷ es) [] h q
 one_more zero s w e es (f ∷ fs) h q ends more = absurd (true≢false (sym ends))
-one_more (suc n) s w e es (f ∷ fs) h q ends more = (refl, after s w (e ∷ es), f ∷ fs, not_empty f fs, micro_is s w (e ∷ es) (f ∷ fs) h q, more f fs ends)
+one_more (suc n) s w e es (f ∷ fs) h q ends more = (after s w (e ∷ es), f ∷ fs, round_is s w (e ∷ es) (f ∷ fs) h q, not_empty f fs, more f fs ends)
 
 pub step_is : (n : ℕ) (s : Spec) (w : World) (e : Instance) (es : List Instance) → fits (components s) w.choices ≡ true
     → ends_within n s w (e ∷ es) ≡ true → IsStepFrom n s w (e ∷ es)
@@ -131,9 +135,7 @@ run_is n s w [] h ends = tt
 run_is n s w (m ∷ ms) h ends =
     let first = first_so (ends_within n s (latched s w m) (m.receive.raised ∷ [])) (all_end n s (rounds_from n s (latched s w m) (m.receive.raised ∷ [])).1 ms) ends in
     let rest = second_so (ends_within n s (latched s w m) (m.receive.raised ∷ [])) (all_end n s (rounds_from n s (latched s w m) (m.receive.raised ∷ [])).1 ms) ends in (
-      refl,
-      (rounds_from n s (latched s w m) (m.receive.raised ∷ [])).1,
-      step_is n s (latched s w m) m.receive.raised [] h first,
+      record { receive = refl; step = step_is n s (latched s w m) m.receive.raised [] h first },
       run_is n s (rounds_from n s (latched s w m) (m.receive.raised ∷ [])).1 ms (left_fits n s (latched s w m) (m.receive.raised ∷ []) h) rest,
     )
 

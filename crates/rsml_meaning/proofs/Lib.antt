@@ -3,10 +3,15 @@ pub mod Children
 pub mod Computed
 pub mod Entering
 pub mod Exists
+mod FirstFault
+mod FunctionValues
 mod Lengths
+mod LineRules
 mod Order
 mod OneReport
 mod Pigeons
+pub mod Prefixes
+mod Reached
 pub mod Repeats
 pub mod Reported
 pub mod Same

@@ -115,7 +115,7 @@ first_clash n s x c k h = record { clash = k; first = λ d l b. no_such_clash n 
 -- Loops, and all external events.
 
 -- the event that begins a chain is raised by a receive
-external_passes : (p : Instance → Bool) (rs : List ReceiveInstance) (x : Instance) → list_all (λ r. p r.raised) rs ≡ true → list_any (λ r. same_instance r.raised x) rs ≡ true → p x ≡ true
+pub external_passes : (p : Instance → Bool) (rs : List ReceiveInstance) (x : Instance) → list_all (λ r. p r.raised) rs ≡ true → list_any (λ r. same_instance r.raised x) rs ≡ true → p x ≡ true
 external_passes p [] x h k = absurd (true≢false (sym k))
 external_passes p (r ∷ rs) x h k = by_test (same_instance r.raised x) refl k (external_passes p rs x (second_so (p r.raised) (list_all (λ q. p q.raised) rs) h))
   where

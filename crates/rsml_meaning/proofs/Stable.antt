@@ -2,8 +2,6 @@
 use Rattle.std.proofs.Common.{◌≡◌, ℕ, ◌+◌, Bool, true, false, not, ◌&&◌, ◌||◌, List, [], ◌∷◌, ◌++◌, map, fold, is_some, Option, Some, if◌then◌else◌, cond, ℤ, inl, inr, refl, sym, ap, ◌∙◌, subst, true≢false}
 use Rattle.std.specs.List.{list_all, list_any, position_from}
 use Rattle.std.specs.Cmp.{first_so, second_so}
-use Rattle.rsml_syntax.specs.declared.syntax.Spec.{Spec}
-use Rattle.rsml_syntax.specs.declared.world.World.{World}
 use Rattle.rsml_syntax.specs.declared.syntax.Decl.{Decl}
 use Rattle.rsml_syntax.specs.declared.syntax.Decl.TheVariants as decl
 use Rattle.rsml_syntax.specs.declared.syntax.Simple.{Simple}
@@ -16,16 +14,16 @@ use Rattle.rsml_syntax.specs.declared.syntax.Case.{Case}
 use Rattle.rsml_syntax.specs.declared.syntax.Guard.{Guard}
 use Rattle.rsml_syntax.specs.declared.syntax.Guard.TheVariants as guards
 use Rattle.rsml_syntax.specs.declared.syntax.Amount.{Amount}
-use Rattle.rsml_syntax.specs.Names.{Name, same, is_in}
-use Rattle.rsml_syntax.specs.Relations.{compare}
-use Rattle.rsml_syntax.specs.Tables.{table_truth}
+use Rattle.rsml_syntax.specs.text.Names.{Name, same, is_in}
+use Rattle.rsml_syntax.specs.rules.Relations.{compare}
+use Rattle.rsml_syntax.specs.rules.Tables.{table_truth}
 use Rattle.rsml_meaning.specs.Words.{Instance, at, IsOne}
-use Rattle.rsml_syntax.specs.Globals.{indices}
-use Rattle.rsml_syntax.specs.Comparisons.{Reading, index_number}
-use Rattle.rsml_syntax.specs.Written.{simple_of, rows_of}
+use Rattle.rsml_syntax.specs.rules.Globals.{indices}
+use Rattle.rsml_syntax.specs.limits.Comparisons.{Indices, index_number}
+use Rattle.rsml_syntax.specs.grammar.Written.{simple_of, rows_of}
 use Rattle.rsml_meaning.specs.Truth.{View, view, learn, bare, within, instance, simple, phrase, table, row_truth, guard, values_given, sum, quantified}
-use Rattle.rsml_meaning.specs.InOrder.{used_by_simple, used_by_rows, used_by_cases, may_declare, in_order, IsInOrder}
-use Rattle.rsml_meaning.specs.Laws.{MacrosAreTheirTables, FunctionsAreTheirCases, compares_so}
+use Rattle.rsml_meaning.specs.InOrder.{used_by_simple, used_by_rows, used_by_cases, may_declare, in_order}
+use Rattle.rsml_meaning.specs.Laws.{MacrosAreTheirTables, FunctionsAreTheirCases, compares_so, FunctionsGiveTheirCases}
 use Rattle.rsml_meaning.proofs.Same.{name_same, name_itself}
 
 -- Known names.
@@ -89,32 +87,32 @@ module _ (K : List Name) (v : View) (h : Instance → Bool) (g : Instance → Li
   abbrev w : View
   w = with_known v h g
 
-  simple_same : (r : Reading) (b : Simple) → all_in K (used_by_simple b) ≡ true → simple v r b ≡ simple w r b
+  simple_same : (r : Indices) (b : Simple) → all_in K (used_by_simple b) ≡ true → simple v r b ≡ simple w r b
   simple_same r (simples.In path) k = refl
   simple_same r (simples.Macro m) k = same_holds (instance v.names r m) (first_so (is_in m.name K) true k)
   simple_same r (simples.Compare left relation right) k = refl
   simple_same r (simples.Function f relation right) k = ap (λ xs. list_any (λ x. compare relation x (sum v r right)) xs) (same_gives (instance v.names r f) (first_so (is_in f.name K) true k))
 
-  phrase_same : (r : Reading) (p : Phrase) → all_in K (used_by_simple (simple_of p)) ≡ true → phrase v r p ≡ phrase w r p
+  phrase_same : (r : Indices) (p : Phrase) → all_in K (used_by_simple (simple_of p)) ≡ true → phrase v r p ≡ phrase w r p
   phrase_same r (phrases.Plain b) k = simple_same r b k
   phrase_same r (phrases.Any x n b) k = any_same (λ i. simple v (quantified r x i) b) (λ i. simple w (quantified r x i) b) (λ i. simple_same (quantified r x i) b k) (indices v.names (Some n))
   phrase_same r (phrases.Every x n b) k = every_same (λ i. simple v (quantified r x i) b) (λ i. simple w (quantified r x i) b) (λ i. simple_same (quantified r x i) b k) (indices v.names (Some n))
 
-  rows_same : (r : Reading) (rows : List Row) → all_in K (used_by_rows rows) ≡ true → map (row_truth v r) rows ≡ map (row_truth w r) rows
+  rows_same : (r : Indices) (rows : List Row) → all_in K (used_by_rows rows) ≡ true → map (row_truth v r) rows ≡ map (row_truth w r) rows
   rows_same r [] k = refl
   rows_same r (row ∷ rows) k =
       let a = phrase_same r row.phrase (all_front (λ x. is_in x K) (used_by_simple (simple_of row.phrase)) (used_by_rows rows) k) in
       let b = rows_same r rows (all_back (λ x. is_in x K) (used_by_simple (simple_of row.phrase)) (used_by_rows rows) k) in
       λ i. (a i, row.cells) ∷ b i
 
-  pub table_same : (r : Reading) (rows : List Row) → all_in K (used_by_rows rows) ≡ true → table v r rows ≡ table w r rows
+  pub table_same : (r : Indices) (rows : List Row) → all_in K (used_by_rows rows) ≡ true → table v r rows ≡ table w r rows
   table_same r rows k = ap table_truth (rows_same r rows k)
 
-  guard_same : (r : Reading) (x : Guard) → all_in K (used_by_rows (rows_of x)) ≡ true → guard v r x ≡ guard w r x
+  guard_same : (r : Indices) (x : Guard) → all_in K (used_by_rows (rows_of x)) ≡ true → guard v r x ≡ guard w r x
   guard_same r guards.Always k = refl
   guard_same r (guards.Table rows) k = table_same r rows k
 
-  pub values_same : (r : Reading) (cases : List Case) → all_in K (used_by_cases cases) ≡ true → values_given v r cases ≡ values_given w r cases
+  pub values_same : (r : Indices) (cases : List Case) → all_in K (used_by_cases cases) ≡ true → values_given v r cases ≡ values_given w r cases
   values_same r [] k = refl
   values_same r (c ∷ cases) k =
       let a = guard_same r c.guard (all_front (λ x. is_in x K) (used_by_rows (rows_of c.guard)) (used_by_cases cases) k) in
@@ -237,11 +235,10 @@ pub macros_are_their_tables : MacrosAreTheirTables
 macros_are_their_tables s w h r m size rows one = macro_says [] m.name size rows (index_number (view s w).names r m.index) s.decls (bare s w) h one
 
 -- a function gives the values of its cases with a true guard
-pub functions_give_their_cases : (s : Spec) (w : World) → IsInOrder s → (name : Name) (i : ℕ) (size : Option Amount) (cases : List Case) → IsOne (decl.Function name size cases) s.decls
-    → (view s w).gives (at name i) ≡ values_given (view s w) (within i) cases
+pub functions_give_their_cases : FunctionsGiveTheirCases
 functions_give_their_cases s w h name i size cases one = function_says [] name size cases i s.decls (bare s w) h one
 
-any_value : (v : View) (r : Reading) (relation : Relation) (n : ℤ) (cases : List Case)
+any_value : (v : View) (r : Indices) (relation : Relation) (n : ℤ) (cases : List Case)
     → list_any (λ x. compare relation x n) (values_given v r cases) ≡ list_any (compares_so v r relation n) cases
 any_value v r relation n [] = refl
 any_value v r relation n (c ∷ cases) = by_guard (guard v r c.guard) (any_value v r relation n cases)

@@ -11,7 +11,7 @@ use Rattle.rsml_meaning.specs.Worlds.{is_world, IsWorld, world_cmp}
 use Rattle.rsml_meaning.specs.Truth.{view}
 use Rattle.rsml_meaning.specs.Groups.{Group, meets, enabled_count}
 use Rattle.rsml_meaning.specs.Findings.{EnablesIn, IsLeast, IsVerdict, Verdict, sound, none, two}
-use Rattle.rsml_meaning.proofs.AllWorlds.{all_worlds, no_negatives, world_among}
+use Rattle.rsml_meaning.proofs.AllWorlds.{all_worlds, world_among}
 
 -- the world meets the group's condition, and the number of enabled members passes the test
 abbrev pub enables : Spec → Group → (ℕ → Bool) → World → Bool
@@ -22,7 +22,7 @@ is_before v w = is_lt (world_cmp v w)
 
 -- no world passes
 abbrev pub in_none : Spec → (World → Bool) → Bool
-in_none s test = no_negatives s && list_all (λ w. not (test w)) (all_worlds s)
+in_none s test = list_all (λ w. not (test w)) (all_worlds s)
 
 -- this world passes, and none before it
 abbrev pub in_least : Spec → (World → Bool) → World → Bool
@@ -41,9 +41,7 @@ both a b p q = ap (λ c. c && b) p ∙ q
 
 pub none_passes : (s : Spec) (test : World → Bool) → in_none s test ≡ true → (w : World) → IsWorld s w → test w ≡ true → ⊥
 none_passes s test h w i k =
-    let negatives = first_so (no_negatives s) (list_all (λ v. not (test v)) (all_worlds s)) h in
-    let all = second_so (no_negatives s) (list_all (λ v. not (test v)) (all_worlds s)) h in
-    not_true (test w) (each_so (λ v. not (test v)) (all_worlds s) w all (world_among s w negatives i)) k
+    not_true (test w) (each_so (λ v. not (test v)) (all_worlds s) w h (world_among s w i)) k
 
 -- What a test says of the number of enabled members.
 pub record Tests (test : ℕ → Bool) (IsCount : ℕ → Type 0) : Type 0 where

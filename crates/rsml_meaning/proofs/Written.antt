@@ -34,7 +34,7 @@ use Rattle.rsml_syntax.specs.declared.syntax.Term.{Term}
 use Rattle.rsml_syntax.specs.declared.syntax.Transition.{Transition}
 use Rattle.rsml_syntax.specs.declared.syntax.Value.{Value}
 use Rattle.rsml_syntax.specs.declared.syntax.Value.TheVariants as values
-use Rattle.rsml_syntax.specs.Names.{Name}
+use Rattle.rsml_syntax.specs.text.Names.{Name}
 pub use Rattle.rsml_syntax.specs.declared.syntax.Cell.TheVariants.{T, F, Dot}
 pub use Rattle.rsml_syntax.specs.declared.syntax.Relation.TheVariants.{Equal, NotEqual, Less, LessEqual, Greater, GreaterEqual}
 

@@ -1,7 +1,11 @@
 pub mod Chains
 pub mod EventLines
+pub mod Findings
 pub mod Groups
 pub mod LargeTrace
+pub mod Meetings
 pub mod Reports
+pub mod Sends
 pub mod Traces
+pub mod TwoResults
 pub mod Worlds

@@ -1,9 +1,15 @@
+pub mod Ancestor
+pub mod Both
 pub mod Buses
+pub mod Colours
+pub mod Cycles
+pub mod Deep
 pub mod Fork
 pub mod Grades
 pub mod Height
 pub mod Lamp
 pub mod LampShort
+pub mod Latch
 pub mod Meet
 pub mod Nest
 pub mod Pair
@@ -11,6 +17,10 @@ pub mod Panel
 pub mod Plant
 pub mod Ring
 pub mod Rise
+pub mod Shades
+pub mod Single
 pub mod Tcas
+pub mod ToldTwice
 pub mod Top
 pub mod Tracks
+pub mod Twin

@@ -3,7 +3,7 @@ use Rattle.std.specs.Prelude.{ℕ, Bool, true, List, [], map, length, Option, So
 use Rattle.std.specs.List.{list_all}
 use Rattle.rsml_syntax.specs.declared.syntax.Spec.{Spec}
 use Rattle.rsml_syntax.specs.declared.world.World.{World}
-use Rattle.rsml_syntax.specs.Names.{Name, place_of}
+use Rattle.rsml_syntax.specs.text.Names.{Name, place_of}
 use Rattle.rsml_meaning.specs.Words.{at, Path, child_path, is_prefix, is_proper_prefix}
 use Rattle.rsml_meaning.specs.Instances.{Component, components}
 
@@ -25,7 +25,7 @@ child_place c name = unwrap_or (place_of name c.children) 0
 
 -- the child that entering the target gives a component: the target's next step where the component is a proper prefix of it, else the default child
 abbrev pub entered : Path → Component → Name
-entered target c = if is_proper_prefix c.path target then (slice_index_or target (length c.path) (at c.first 0)).name else c.first
+entered target c = if is_proper_prefix c.path target then (slice_index_or target (length c.path) (at c.default 0)).name else c.default
 
 -- the place of the child that a move gives a component: the moving component and those below it get one
 abbrev pub given : Path → Path → Component → Option ℕ

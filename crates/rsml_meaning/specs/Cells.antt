@@ -6,10 +6,10 @@ use Rattle.rsml_syntax.specs.declared.syntax.Decl.{Decl}
 use Rattle.rsml_syntax.specs.declared.syntax.Decl.TheVariants as decl
 use Rattle.rsml_syntax.specs.declared.syntax.Initial.{Initial}
 use Rattle.rsml_syntax.specs.declared.syntax.Initial.TheVariants as initials
-use Rattle.rsml_syntax.specs.Names.{Name}
-use Rattle.rsml_syntax.specs.Globals.{Globals, Known, meaning, number, signed, values_of}
-use Rattle.rsml_syntax.specs.Thresholds.{type_ends}
-use Rattle.rsml_syntax.specs.Previous.{names_previous}
+use Rattle.rsml_syntax.specs.text.Names.{Name}
+use Rattle.rsml_syntax.specs.rules.Globals.{Globals, Known, meaning, number, signed, values_of}
+use Rattle.rsml_syntax.specs.limits.Thresholds.{type_ends}
+use Rattle.rsml_syntax.specs.limits.Previous.{names_previous}
 use Rattle.rsml_meaning.specs.Words.{Instance}
 use Rattle.rsml_meaning.specs.Instances.{globals_of, instances}
 

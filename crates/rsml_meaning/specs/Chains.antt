@@ -45,6 +45,10 @@ pub record IsLength (s : Spec) (x : Instance) (n : ℕ) : Type 0 where
   pub reached : (es : List Instance) × IsChainFrom s x es × (length es ≡ n)
   pub most : (es : List Instance) → IsChainFrom s x es → length es ≤ n
 
+-- some number is the length of the event
+abbrev pub HasLength : Spec → Instance → Type 0
+HasLength s x = (n : ℕ) × IsLength s x n
+
 -- an event stands twice in a list
 abbrev pub IsTwiceIn : List Instance → Instance → Type 0
 IsTwiceIn es e = 2 ≤ length (filter (same_instance e) es)

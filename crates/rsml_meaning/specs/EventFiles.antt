@@ -1,5 +1,5 @@
 -- The lines of an event file, when it is well-formed, and its first fault.
-use Rattle.std.specs.Prelude.{◌≡◌, ℕ, suc, ◌+◌, ◌≤◌, Bool, true, false, ◌&&◌, List, [], ◌∷◌, length, Option, Some, None, if◌then◌else◌, ◌==◌, nat_lt, nat_le, is_none, filter_map, take_while}
+use Rattle.std.specs.Prelude.{◌≡◌, ℕ, suc, ◌+◌, ◌<◌, ◌≤◌, Bool, true, false, ◌&&◌, ◌⊎◌, List, [], ◌∷◌, ◌++◌, length, Option, Some, None, if◌then◌else◌, ◌==◌, nat_lt, nat_le, is_none, filter_map, take_while}
 use Rattle.std.specs.Str.{byte}
 use Rattle.rsml_syntax.specs.declared.syntax.Spec.{Spec}
 use Rattle.rsml_meaning.specs.Words.{first_some, Each}
@@ -98,6 +98,25 @@ fault_at s limits size line = elim (is_long limits line) [
 -- the fault of the first line that has one
 abbrev pub first_fault : Spec → Limits → Bytes → Option FileFault
 first_fault s limits content = first_some (fault_at s limits (length content)) (lines_of content)
+
+-- What the fault at a line of a file with so many bytes says:
+abbrev pub IsFaultAt : Spec → Limits → ℕ → Line → FileFault → Type 0
+-- the line has more bytes than it may
+IsFaultAt s limits size line (long_line n) = (n ≡ line.number) × (limits.line < length line.bytes)
+-- it has not, the file has a byte at the limit's offset, and the line with its LF does not end before that
+IsFaultAt s limits size line long_file = (length line.bytes ≤ limits.line) × (limits.file < size) × (limits.file < end_of line)
+-- none of these, and the line breaks this rule
+IsFaultAt s limits size line (broken_line n rule) =
+    (n ≡ line.number) × (length line.bytes ≤ limits.line) × ((size ≤ limits.file) ⊎ (end_of line ≤ limits.file)) × (rule_broken s line ≡ Some rule)
+
+-- The fault of a line, before which no line has one.
+pub record IsFirstFault (s : Spec) (limits : Limits) (content : Bytes) (fault : FileFault) : Type 0 where
+  pub before : List Line
+  pub line : Line
+  pub after : List Line
+  pub among : lines_of content ≡ before ++ (line ∷ after)
+  pub is_fault : IsFaultAt s limits (length content) line fault
+  pub none_before : Each (λ l. (other : FileFault) → IsFaultAt s limits (length content) l other → ⊥) before
 
 -- the lines before the first fault
 abbrev pub sound_lines : Spec → Limits → Bytes → List Line

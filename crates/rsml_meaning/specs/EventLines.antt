@@ -1,13 +1,13 @@
 -- What an event line says, and which of the rules E1 to E7 it breaks.
-use Rattle.std.specs.Prelude.{ℕ, ◌+◌, ◌-◌, ◌*◌, Bool, true, false, not, ◌&&◌, ◌||◌, List, [], ◌∷◌, ◌++◌, map, length, take, drop, Option, Some, None, if◌then◌else◌, ℤ, pos, neg_ℤ, ◌==◌, nat_eq, nat_le, fold, filter, zip, option_map, option_and_then, codes}
+use Rattle.std.specs.Prelude.{ℕ, ◌+◌, ◌-◌, ◌*◌, Bool, true, false, not, ◌&&◌, ◌||◌, List, [], ◌∷◌, ◌++◌, map, length, drop, Option, Some, None, if◌then◌else◌, ℤ, pos, neg_ℤ, ◌==◌, nat_eq, nat_le, fold, filter, zip, option_map, option_and_then, codes}
 use Rattle.std.specs.List.{list_all, starts_with, before_first}
 use Rattle.std.specs.Str.{byte, all_ascii_digits, is_utf8}
 use Rattle.rsml_syntax.specs.declared.syntax.Spec.{Spec}
 use Rattle.rsml_syntax.specs.declared.syntax.Amount.{Amount}
 use Rattle.rsml_syntax.specs.declared.syntax.Mention.{Mention}
 use Rattle.rsml_syntax.specs.declared.syntax.Decl.TheVariants as decl
-use Rattle.rsml_syntax.specs.Names.{Name, same, place_of}
-use Rattle.rsml_syntax.specs.Globals.{Globals, Known, meaning, many}
+use Rattle.rsml_syntax.specs.text.Names.{Name, place_of}
+use Rattle.rsml_syntax.specs.rules.Globals.{Globals, Known, meaning, many}
 use Rattle.rsml_meaning.specs.Instances.{globals_of}
 use Rattle.rsml_meaning.specs.Cells.{InputType, input_type, is_of}
 use Rattle.rsml_meaning.specs.Interfaces.{ReceiveInstance, new_receive}
@@ -95,11 +95,16 @@ name_part word = before_first (λ c. c == byte "[") word
 abbrev pub index_part : Bytes → Bytes
 index_part word = drop (length (name_part word)) word
 
+-- what stands before `]` at the end; none where the text does not end so
+abbrev pub before_close : Bytes → Option Bytes
+before_close [] = None
+before_close (c ∷ []) = if c == byte "]" then Some [] else None
+before_close (c ∷ d ∷ cs) = option_map (λ inner. c ∷ inner) (before_close (d ∷ cs))
+
 -- what stands between `[` and `]`; none where the text is not in these brackets
 abbrev pub in_brackets : Bytes → Option Bytes
-in_brackets text =
-    let inner = drop 1 (take (length text - 1) text) in
-    if same text (codes "[" ++ (inner ++ codes "]")) then Some inner else None
+in_brackets [] = None
+in_brackets (c ∷ cs) = if c == byte "[" then before_close cs else None
 
 -- the number, if it is 1 to the size
 abbrev pub up_to_size : ℕ → ℕ → Option ℕ

@@ -1,10 +1,10 @@
--- The groups of what must not be enabled together, their conditions, and when a group is sound.
+-- The groups of which exactly one member is to be enabled, their conditions, and when a group is sound.
 use Rattle.std.specs.Prelude.{◌≡◌, ℕ, Bool, true, not, ◌&&◌, List, ◌++◌, map, IsTrue, flat_map, filter, length}
 use Rattle.std.specs.List.{list_any}
 use Rattle.rsml_syntax.specs.declared.syntax.Spec.{Spec}
 use Rattle.rsml_syntax.specs.declared.world.World.{World}
 use Rattle.rsml_syntax.specs.declared.syntax.Case.{Case}
-use Rattle.rsml_meaning.specs.Words.{Instance, Path, is_proper_prefix}
+use Rattle.rsml_meaning.specs.Words.{Instance, Path, is_proper_prefix, item_of}
 use Rattle.rsml_meaning.specs.Instances.{states, events}
 use Rattle.rsml_meaning.specs.Worlds.{IsWorld}
 use Rattle.rsml_meaning.specs.Truth.{View, view, within, guard}
@@ -27,7 +27,7 @@ pub data Member : Type 0 where
 abbrev pub enabled : View → Member → Bool
 enabled v (transition t) = is_enabled v t
 enabled v (send_case c) = is_sending v c
-enabled v (case f c) = guard v (within f.index) c.1.guard
+enabled v (case f c) = guard v (within f.index) (item_of c).guard
 
 -- the transitions on a state's line, the cases of a send on the event, all cases of a function
 abbrev pub members : Spec → Group → List Member

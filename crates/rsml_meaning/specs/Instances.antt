@@ -8,8 +8,8 @@ use Rattle.rsml_syntax.specs.declared.syntax.Bus.{Bus}
 use Rattle.rsml_syntax.specs.declared.syntax.Transition.{Transition}
 use Rattle.rsml_syntax.specs.declared.syntax.StateDecl.{StateDecl}
 use Rattle.rsml_syntax.specs.declared.syntax.Body.{Body, Basic, One', All', Row_of-StateDecl, end_of-StateDecl, more_of-StateDecl}
-use Rattle.rsml_syntax.specs.Names.{Name}
-use Rattle.rsml_syntax.specs.Globals.{Globals, globals, indices}
+use Rattle.rsml_syntax.specs.text.Names.{Name}
+use Rattle.rsml_syntax.specs.rules.Globals.{Globals, globals, indices}
 use Rattle.rsml_meaning.specs.Words.{Instance, at, Path, child_path}
 
 -- the global names of a specification
@@ -22,23 +22,24 @@ instances g name size = map (at name) (indices g size)
 
 -- States and components.
 
--- An instance of a `one` state: its children, of which the first one named is the default, and what leads between them.
+-- An instance of a `one` state: its default child, its children, and what leads between them.
 pub record Component : Type 0 where
   pub path : Path
-  pub first : Name
+  pub default : Name
   pub children : List Name
   pub buses : List Bus
   pub transitions : List Transition
 
--- A state instance, and the component that it is, if it is an instance of a `one` state.
+-- A state instance with its body, and the component that it is, if it is an instance of a `one` state.
 pub record State : Type 0 where
   pub path : Path
+  pub body : Body
   pub component : Option Component
 
 -- a component of its parts
 abbrev pub new_component : Path → Name → List Name → List Bus → List Transition → Component
-new_component path first children buses transitions =
-    record { path = path; first = first; children = children; buses = buses; transitions = transitions }
+new_component path default children buses transitions =
+    record { path = path; default = default; children = children; buses = buses; transitions = transitions }
 
 -- the names of the children in a row
 abbrev pub row_names : {m : _} → Row_of-StateDecl m → List Name
@@ -47,18 +48,18 @@ row_names (more_of-StateDecl name size body others) = name ∷ row_names others
 
 -- the component that a state with this body is
 abbrev pub component_of : Body → Path → Option Component
-component_of (One' first _ children buses transitions) path = Some (new_component path first (row_names children) buses transitions)
+component_of (One' default _ children buses transitions) path = Some (new_component path default (row_names children) buses transitions)
 component_of _ path = None
 
 -- the state instance with this body at a path
 abbrev pub new_state : Body → Path → State
-new_state body path = record { path = path; component = component_of body path }
+new_state body path = record { path = path; body = body; component = component_of body path }
 
 abbrev mutual
   -- the states inside a state with this body
   pub inside : Globals → Body → Path → List State
   inside g Basic path = []
-  inside g (One' first _ children buses transitions) path = row_inside g children path
+  inside g (One' default _ children buses transitions) path = row_inside g children path
   inside g (All' _ children) path = row_inside g children path
 
   -- the states that a row of children makes: each child before what is inside it, an array once for each index

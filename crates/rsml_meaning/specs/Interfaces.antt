@@ -9,9 +9,9 @@ use Rattle.rsml_syntax.specs.declared.syntax.Row.{Row}
 use Rattle.rsml_syntax.specs.declared.syntax.Case.{Case}
 use Rattle.rsml_syntax.specs.declared.syntax.SendCase.{SendCase}
 use Rattle.rsml_syntax.specs.declared.syntax.Answer.{Answer}
-use Rattle.rsml_syntax.specs.Names.{Name}
-use Rattle.rsml_syntax.specs.Globals.{Globals, indices}
-use Rattle.rsml_meaning.specs.Words.{Instance, at, same_instance, numbered}
+use Rattle.rsml_syntax.specs.text.Names.{Name}
+use Rattle.rsml_syntax.specs.rules.Globals.{Globals, indices}
+use Rattle.rsml_meaning.specs.Words.{Instance, at, same_instance, numbered, ordinal_of, item_of}
 use Rattle.rsml_meaning.specs.Instances.{globals_of, instances}
 use Rattle.rsml_meaning.specs.Truth.{View, within, instance, guard}
 
@@ -60,7 +60,14 @@ pub record SendCaseInstance : Type 0 where
 -- a case, with its place, of the send instance at an index
 abbrev pub new_send_case : Globals → Name → List Name → ℕ → ℕ × SendCase → SendCaseInstance
 new_send_case g name fields i c =
-    record { send = at name i; fields = fields; ordinal = c.0; event = instance g (within i) c.1.trigger; guard = c.1.guard; answer = c.1.answer }
+    record {
+      send = at name i;
+      fields = fields;
+      ordinal = ordinal_of c;
+      event = instance g (within i) (item_of c).trigger;
+      guard = (item_of c).guard;
+      answer = (item_of c).answer;
+    }
 
 -- the cases of the send instances that a declaration makes
 abbrev pub send_cases_of : Globals → Decl → List SendCaseInstance

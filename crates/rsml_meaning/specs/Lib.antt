@@ -10,6 +10,7 @@ pub mod InOrder
 pub mod Instances
 pub mod Interfaces
 pub mod Laws
+pub mod LineRules
 pub mod Report
 pub mod Runs
 pub mod Steps

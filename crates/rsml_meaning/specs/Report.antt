@@ -6,13 +6,13 @@ use Rattle.std.specs.Cmp.Lexicographic.{slice_cmp}
 use Rattle.std.specs.declared.cmp.Ordering.TheVariants.{Less}
 use Rattle.rsml_syntax.specs.declared.syntax.Spec.{Spec}
 use Rattle.rsml_syntax.specs.declared.world.World.{World}
-use Rattle.rsml_meaning.specs.Words.{Instance, has, place_in}
+use Rattle.rsml_meaning.specs.Words.{Instance, has, place_in, ordinal_of}
 use Rattle.rsml_meaning.specs.Instances.{Component, components, events}
 use Rattle.rsml_meaning.specs.Cells.{InputCell, cells}
 use Rattle.rsml_meaning.specs.Active.{chosen}
 use Rattle.rsml_meaning.specs.Truth.{view}
 use Rattle.rsml_meaning.specs.Groups.{Group, state, send, function, groups, Member, transition, send_case, case, members, enabled}
-use Rattle.rsml_meaning.specs.Chains.{is_external, IsLength, Endless, Loops, Clash}
+use Rattle.rsml_meaning.specs.Chains.{is_external, IsLength, HasLength, Endless, Loops, Clash}
 use Rattle.rsml_meaning.specs.Findings.{Verdict, sound, none, two, IsVerdict}
 use Rattle.rsml_meaning.specs.Texts.{Text, text_line, instance_text, path_text, value_text, label, case_label, cell_text}
 
@@ -40,10 +40,6 @@ externals s = filter (is_external s) (events s)
 abbrev pub IsLengthAnswer : Spec → Instance → Option ℕ → Type 0
 IsLengthAnswer s x None = Endless s x
 IsLengthAnswer s x (Some n) = IsLength s x n
-
--- some number is the length of the event
-abbrev pub HasLength : Spec → Instance → Type 0
-HasLength s x = (n : ℕ) × IsLength s x n
 
 -- a clash of declared events
 pub record IsClash (s : Spec) (x : Instance) (c : ClashFound) : Type 0 where
@@ -129,7 +125,7 @@ world_text s w = flat_map choice_line (zip (components s) w.choices) ++ flat_map
 abbrev pub member_label : Member → Text
 member_label (transition t) = label t
 member_label (send_case c) = case_label c.ordinal
-member_label (case f c) = case_label c.0
+member_label (case f c) = case_label (ordinal_of c)
 
 -- a line for each enabled member
 abbrev pub enabled_text : Spec → Group → World → Text

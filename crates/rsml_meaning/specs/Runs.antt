@@ -13,7 +13,7 @@ use Rattle.rsml_meaning.specs.Steps.{Round, IsStep}
 
 -- each component at its default child, each cell and previous cell at its input's initial value
 abbrev pub first_world : Spec → World
-first_world s = record { choices = map (λ c. child_place c c.first) (components s); cells = map (λ c. c.initial) (cells s) }
+first_world s = record { choices = map (λ c. child_place c c.default) (components s); cells = map (λ c. c.initial) (cells s) }
 
 -- the number of a field, where the field is this input
 abbrev pub number_for : Instance → Instance × ℤ → Option ℤ
@@ -34,23 +34,33 @@ latched_cell s w m c = elim c.0.previous [
 abbrev pub latched : Spec → World → Message → World
 latched s w m = record { choices = w.choices; cells = map (latched_cell s w m) (zip (cells s) w.cells) }
 
--- What one event does: the receive instance that it came by, and the rounds of its step.
+-- What one event does: the receive instance that it came by, the rounds of its step, and the world after the step.
 pub record Reaction : Type 0 where
   pub receive : Instance
   pub rounds : List Round
+  pub world : World
 
--- from the world w, each message in turn is latched, and a step on the event that it raises follows
+-- In world w the message is latched, and the reaction is a step on the event that the message raises.
+pub record IsReaction (s : Spec) (w : World) (m : Message) (r : Reaction) : Type 0 where
+  pub receive : r.receive ≡ m.receive.receive
+  pub step : IsStep s (latched s w m) (m.receive.raised ∷ []) r.rounds r.world
+
+-- from the world w, each message in turn has its reaction, in the world that the one before left
 abbrev pub IsRunFrom : Spec → World → List Message → List Reaction → Type 0
 IsRunFrom s w [] [] = ⊤
-IsRunFrom s w (m ∷ ms) (r ∷ rs) =
-    (r.receive ≡ m.receive.receive) × (w' : World) × IsStep s (latched s w m) (m.receive.raised ∷ []) r.rounds w' × IsRunFrom s w' ms rs
+IsRunFrom s w (m ∷ ms) (r ∷ rs) = IsReaction s w m r × IsRunFrom s r.world ms rs
 IsRunFrom s w _ _ = ⊥
 
 -- a run of lines of an event file, from the first world
 abbrev pub IsRun : Spec → List Line → List Reaction → Type 0
 IsRun s lines rs = IsRunFrom s (first_world s) (messages s lines) rs
 
+-- lines of an event file have exactly one run: one list of steps, with all their worlds
+pub record HaveOneRun (s : Spec) (lines : List Line) : Type 0 where
+  pub run : List Reaction
+  pub is_run : IsRun s lines run
+  pub only : (other : List Reaction) → IsRun s lines other → other ≡ run
+
 -- every well-formed event file has exactly one run
 abbrev pub HasOneRun : Spec → Limits → Type 0
-HasOneRun s limits = (content : Bytes) → IsWellFormed s limits content
-    → (rs : List Reaction) × IsRun s (lines_of content) rs × ((qs : List Reaction) → IsRun s (lines_of content) qs → qs ≡ rs)
+HasOneRun s limits = (content : Bytes) → IsWellFormed s limits content → HaveOneRun s (lines_of content)

@@ -1,6 +1,6 @@
 -- How instances, numbers and labels are written.
 use Rattle.std.specs.Prelude.{ℕ, suc, List, [], ◌∷◌, ◌++◌, map, Some, None, if◌then◌else◌, ℤ, pos, negsuc, ◌==◌, drop, length, slice_index_or, unsigned_abs, codes, decimal}
-use Rattle.rsml_syntax.specs.Names.{Name}
+use Rattle.rsml_syntax.specs.text.Names.{Name}
 use Rattle.rsml_meaning.specs.Words.{Instance, Path}
 use Rattle.rsml_meaning.specs.Cells.{InputCell}
 use Rattle.rsml_meaning.specs.Transitions.{TransitionInstance}

@@ -1,14 +1,14 @@
 -- The trace of a run.
-use Rattle.std.specs.Prelude.{ℕ, List, [], ◌∷◌, ◌++◌, length, Option, Some, None, ℤ, flat_map, zip, codes, decimal}
+use Rattle.std.specs.Prelude.{ℕ, List, [], ◌∷◌, ◌++◌, length, Option, Some, None, ℤ, flat_map, codes, decimal}
 use Rattle.std.specs.Option.{option_map_or}
 use Rattle.rsml_syntax.specs.declared.syntax.Spec.{Spec}
 use Rattle.rsml_syntax.specs.declared.syntax.Value.{Value}
 use Rattle.rsml_syntax.specs.declared.syntax.Value.TheVariants as values
 use Rattle.rsml_syntax.specs.declared.syntax.Answer.TheVariants as answers
-use Rattle.rsml_syntax.specs.Names.{Name}
-use Rattle.rsml_syntax.specs.Globals.{Globals, meaning, values_of}
-use Rattle.rsml_syntax.specs.Kinds.{Kind, Values, sum_kind, function_cases}
-use Rattle.rsml_meaning.specs.Words.{Instance, numbered}
+use Rattle.rsml_syntax.specs.text.Names.{Name}
+use Rattle.rsml_syntax.specs.rules.Globals.{Globals, meaning, values_of}
+use Rattle.rsml_syntax.specs.rules.Kinds.{Kind, Values, sum_kind, function_cases}
+use Rattle.rsml_meaning.specs.Words.{Instance, numbered, ordinal_of, item_of}
 use Rattle.rsml_meaning.specs.Instances.{globals_of}
 use Rattle.rsml_meaning.specs.Interfaces.{SendCaseInstance}
 use Rattle.rsml_meaning.specs.Steps.{Sent, Round}
@@ -27,13 +27,24 @@ names_of_kind g _ = []
 
 -- The lines.
 
+-- A field that is sent: its name, the value that the case gives it, and the number of this value.
+pub record SentField : Type 0 where
+  pub name : Name
+  pub value : Value
+  pub number : ℤ
+
+-- the fields, of their names, values and numbers
+abbrev pub sent_fields : List Name → List Value → List ℤ → List SentField
+sent_fields (name ∷ names) (value ∷ values) (number ∷ numbers) = record { name = name; value = value; number = number } ∷ sent_fields names values numbers
+sent_fields _ _ _ = []
+
 -- ` Field=value`
-abbrev pub field_text : Globals → Name × (Value × ℤ) → Text
-field_text g f = codes " " ++ (f.0 ++ (codes "=" ++ value_text (names_of_kind g (value_kind g f.1.0)) f.1.1))
+abbrev pub field_text : Globals → SentField → Text
+field_text g f = codes " " ++ (f.name ++ (codes "=" ++ value_text (names_of_kind g (value_kind g f.value)) f.number))
 
 -- the send instance and its fields
 abbrev pub send_text : Globals → SendCaseInstance → List Value → List ℤ → Text
-send_text g c values numbers = instance_text c.send ++ flat_map (field_text g) (zip c.fields (zip values numbers))
+send_text g c values numbers = instance_text c.send ++ flat_map (field_text g) (sent_fields c.fields values numbers)
 
 -- nothing for a quiet case
 abbrev pub send_line : Globals → Sent → Text
@@ -45,7 +56,9 @@ round_line n present = text_line (codes "  round " ++ (decimal n ++ flat_map (λ
 
 -- a round with its number: what is present, what is taken, what is sent
 abbrev pub round_text : Globals → ℕ × Round → Text
-round_text g r = round_line r.0 r.1.present ++ (flat_map (λ t. text_line (codes "    take " ++ label t)) r.1.taken ++ flat_map (send_line g) r.1.sent)
+round_text g r =
+    round_line (ordinal_of r) (item_of r).present
+    ++ (flat_map (λ t. text_line (codes "    take " ++ label t)) (item_of r).taken ++ flat_map (send_line g) (item_of r).sent)
 
 -- `event N INTERFACE`
 abbrev pub event_line : ℕ → Instance → Text
@@ -53,7 +66,7 @@ event_line n receive = text_line (codes "event " ++ (decimal n ++ (codes " " ++ 
 
 -- what one event does, with its number
 abbrev pub reaction_text : Globals → ℕ × Reaction → Text
-reaction_text g r = event_line r.0 r.1.receive ++ flat_map (round_text g) (numbered r.1.rounds)
+reaction_text g r = event_line (ordinal_of r) (item_of r).receive ++ flat_map (round_text g) (numbered (item_of r).rounds)
 
 -- the trace without its last line
 abbrev pub trace_text : Spec → List Reaction → Text

@@ -3,9 +3,9 @@ use Rattle.std.specs.Prelude.{ℕ, Bool, ◌&&◌, List, [], ◌∷◌, ◌++◌
 use Rattle.rsml_syntax.specs.declared.syntax.Spec.{Spec}
 use Rattle.rsml_syntax.specs.declared.syntax.Guard.{Guard}
 use Rattle.rsml_syntax.specs.declared.syntax.Transition.{Transition}
-use Rattle.rsml_syntax.specs.Names.{Name, same}
-use Rattle.rsml_syntax.specs.Globals.{Globals}
-use Rattle.rsml_meaning.specs.Words.{Instance, at, Path, child_path, same_instance, same_path, is_prefix, numbered}
+use Rattle.rsml_syntax.specs.text.Names.{Name, same}
+use Rattle.rsml_syntax.specs.rules.Globals.{Globals}
+use Rattle.rsml_meaning.specs.Words.{Instance, at, Path, child_path, same_instance, same_path, is_prefix, numbered, ordinal_of, item_of}
 use Rattle.rsml_meaning.specs.Instances.{Component, components, globals_of}
 use Rattle.rsml_meaning.specs.Truth.{View, within, instance, guard}
 
@@ -38,18 +38,18 @@ new_transition g c t source =
     let this = innermost c.path in
     record {
       component = c.path;
-      ordinal = t.0;
+      ordinal = ordinal_of t;
       source = child_path c.path (at source 0);
-      target = option_map (target_path c.path) t.1.target;
-      event = instance g (within this) t.1.trigger;
+      target = option_map (target_path c.path) (item_of t).target;
+      event = instance g (within this) (item_of t).trigger;
       this = this;
-      guard = t.1.guard;
-      raises = map (instance g (within this)) t.1.raises;
+      guard = (item_of t).guard;
+      raises = map (instance g (within this)) (item_of t).raises;
     }
 
 -- the transitions of a component, in order, each once for each source
 abbrev pub transitions_of : Globals → Component → List TransitionInstance
-transitions_of g c = flat_map (λ t. map (new_transition g c t) (sources c t.1.source)) (numbered c.transitions)
+transitions_of g c = flat_map (λ t. map (new_transition g c t) (sources c (item_of t).source)) (numbered c.transitions)
 
 -- the transition instances, by component
 abbrev pub transitions : Spec → List TransitionInstance

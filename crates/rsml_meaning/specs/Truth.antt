@@ -19,12 +19,12 @@ use Rattle.rsml_syntax.specs.declared.syntax.Row.{Row}
 use Rattle.rsml_syntax.specs.declared.syntax.Guard.{Guard}
 use Rattle.rsml_syntax.specs.declared.syntax.Guard.TheVariants as guards
 use Rattle.rsml_syntax.specs.declared.syntax.Case.{Case}
-use Rattle.rsml_syntax.specs.Names.{Name, same}
-use Rattle.rsml_syntax.specs.Comparisons.{Reading, index_number}
-use Rattle.rsml_syntax.specs.Globals.{Globals, meaning, number, indices}
-use Rattle.rsml_syntax.specs.Relations.{compare}
-use Rattle.rsml_syntax.specs.Tables.{TableRow, table_truth}
-use Rattle.rsml_syntax.specs.Uses.{is_input}
+use Rattle.rsml_syntax.specs.text.Names.{Name, same}
+use Rattle.rsml_syntax.specs.limits.Comparisons.{Indices, index_number}
+use Rattle.rsml_syntax.specs.rules.Globals.{Globals, meaning, number, indices}
+use Rattle.rsml_syntax.specs.rules.Relations.{compare}
+use Rattle.rsml_syntax.specs.rules.Tables.{TableRow, table_truth}
+use Rattle.rsml_syntax.specs.rules.Uses.{is_input}
 use Rattle.rsml_meaning.specs.Words.{Instance, at, Path, IsOne}
 use Rattle.rsml_meaning.specs.Instances.{globals_of}
 use Rattle.rsml_meaning.specs.Worlds.{cell}
@@ -41,48 +41,48 @@ pub record View : Type 0 where
   pub gives : Instance → List ℤ
 
 -- inside the instance with this index, and in no quantifier
-abbrev pub within : ℕ → Reading
+abbrev pub within : ℕ → Indices
 within i = record { this = i; variable = None }
 
 -- inside a quantifier, at this value of its variable
-abbrev pub quantified : Reading → Name → ℕ → Reading
+abbrev pub quantified : Indices → Name → ℕ → Indices
 quantified r name i = record r { variable = Some (name, i) }
 
 -- the instance that is mentioned
-abbrev pub instance : Globals → Reading → Mention → Instance
+abbrev pub instance : Globals → Indices → Mention → Instance
 instance g r m = at m.name (index_number g r m.index)
 
 -- Sums.
 
 -- the number of an input's cell, of a constant, or of an enumeration's value
-abbrev pub mentioned : View → Reading → Mention → ℤ
+abbrev pub mentioned : View → Indices → Mention → ℤ
 mentioned v r m = elim (option_map_or is_input (meaning v.names m.name) false) [ true ↦ v.input (instance v.names r m) | false ↦ number v.names m.name ]
 
 -- the number of an operand
-abbrev pub operand : View → Reading → Operand → ℤ
+abbrev pub operand : View → Indices → Operand → ℤ
 operand v r (operands.Number n) = pos n
 operand v r (operands.Mention m) = mentioned v r m
 operand v r (operands.Previous m) = v.previous (instance v.names r m)
 
 -- the number of a term, with its sign
-abbrev pub term : View → Reading → Term → ℤ
+abbrev pub term : View → Indices → Term → ℤ
 term v r t = if t.minus then neg_ℤ (operand v r t.operand) else operand v r t.operand
 
 -- the sum of the signed terms
-abbrev pub sum : View → Reading → Sum → ℤ
+abbrev pub sum : View → Indices → Sum → ℤ
 sum v r x = fold (λ a t. a +ℤ term v r t) (pos 0) x.terms
 
 -- Phrases.
 
 -- the truth of a phrase without a quantifier
-abbrev pub simple : View → Reading → Simple → Bool
+abbrev pub simple : View → Indices → Simple → Bool
 simple v r (simples.In path) = v.is_active (map (instance v.names r) path)
 simple v r (simples.Macro m) = v.holds (instance v.names r m)
 simple v r (simples.Compare left relation right) = compare relation (sum v r left) (sum v r right)
 simple v r (simples.Function f relation right) = list_any (λ x. compare relation x (sum v r right)) (v.gives (instance v.names r f))
 
 -- the truth of a phrase: `some` and `every` go over the values of their variable
-abbrev pub phrase : View → Reading → Phrase → Bool
+abbrev pub phrase : View → Indices → Phrase → Bool
 phrase v r (phrases.Plain body) = simple v r body
 phrase v r (phrases.Any name bound body) = list_any (λ i. simple v (quantified r name i) body) (indices v.names (Some bound))
 phrase v r (phrases.Every name bound body) = list_all (λ i. simple v (quantified r name i) body) (indices v.names (Some bound))
@@ -90,23 +90,25 @@ phrase v r (phrases.Every name bound body) = list_all (λ i. simple v (quantifie
 -- Tables and guards.
 
 -- the truth of a row's phrase, and its cells
-abbrev pub row_truth : View → Reading → Row → TableRow
+abbrev pub row_truth : View → Indices → Row → TableRow
 row_truth v r row = (phrase v r row.phrase, row.cells)
 
 -- the truth of a table
-abbrev pub table : View → Reading → List Row → Bool
+abbrev pub table : View → Indices → List Row → Bool
 table v r rows = table_truth (map (row_truth v r) rows)
 
 -- the truth of a guard
-abbrev pub guard : View → Reading → Guard → Bool
+abbrev pub guard : View → Indices → Guard → Bool
 guard v r guards.Always = true
 guard v r (guards.Table rows) = table v r rows
 
 -- the values of the cases with a true guard
-abbrev pub values_given : View → Reading → List Case → List ℤ
+abbrev pub values_given : View → Indices → List Case → List ℤ
 values_given v r cases = flat_map (λ c. if guard v r c.guard then sum v r c.value ∷ [] else []) cases
 
--- Macros and functions: each is read by what is declared before it.
+-- Macros and functions: each is read by what is declared before it. What this comes to, where each has a name of its own
+-- and is used after its declaration alone (the laws): a phrase that names a macro is the truth of that instance's table, and
+-- a function gives the values of its cases with a true guard, in the same view.
 
 -- what a view says after one more declaration
 abbrev pub learn : View → Decl → View

@@ -1,7 +1,7 @@
 -- Words on instances, paths and lists.
 use Rattle.std.specs.Prelude.{◌≡◌, ℕ, suc, Bool, true, false, ◌&&◌, ◌||◌, ◌⊎◌, List, [], ◌∷◌, ◌++◌, length, Option, Some, None, nat_eq, nat_lt, ⊤}
 use Rattle.std.specs.List.{list_any, position_from}
-use Rattle.rsml_syntax.specs.Names.{Name, same}
+use Rattle.rsml_syntax.specs.text.Names.{Name, same}
 use Rattle.rsml_syntax.specs.declared.world.Step.{Step}
 
 -- a name with its index, which is 0 where the name was declared without a size
@@ -63,6 +63,14 @@ numbered_from n (x ∷ xs) = (n, x) ∷ numbered_from (suc n) xs
 -- each with its number, from 1
 abbrev pub numbered : {A : Type 0} → List A → List (ℕ × A)
 numbered xs = numbered_from 1 xs
+
+-- the number of a numbered item
+abbrev pub ordinal_of : {A : Type 0} → ℕ × A → ℕ
+ordinal_of x = x.0
+
+-- the item without its number
+abbrev pub item_of : {A : Type 0} → ℕ × A → A
+item_of x = x.1
 
 -- the fact holds of each item
 abbrev pub Each : {A : Type 0} → (A → Type 0) → List A → Type 0

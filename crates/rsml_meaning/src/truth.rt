@@ -1,4 +1,5 @@
 ghost use Rattle.rsml_meaning.specs.Laws.{MacrosAreTheirTables, FunctionsAreTheirCases};
+ghost use Rattle.rsml_meaning.specs.Laws.{FunctionsGiveTheirCases, FunctionValuesAreOfCases};
 
 /// A phrase that names a macro is true exactly where that instance's table is, where macros and
 /// functions are used after their declaration alone.
@@ -10,4 +11,12 @@ pub fn macros_are_their_tables()
 /// compares so, where macros and functions are used after their declaration alone.
 pub fn functions_are_their_cases()
     ensures { FunctionsAreTheirCases }
+{}
+
+/// A function gives the values of its cases with a true guard, so that its value is that of some case
+/// with a true guard, or 0 where none is true; where macros and functions are used after their
+/// declaration alone.
+pub fn functions_give_their_cases()
+    ensures all { FunctionsGiveTheirCases }
+    ensures value { FunctionValuesAreOfCases }
 {}

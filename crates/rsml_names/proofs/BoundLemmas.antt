@@ -1,5 +1,5 @@
 -- Variables by their names and their places, and those of declarations one after another.
-use Rattle.std.proofs.Common.{◌≡◌, ℕ, suc, ◌+◌, Bool, true, false, cond, List, [], ◌∷◌, ◌++◌, length, map, Option, Some, None, refl, ap, ◌∙◌, slice_get}
+use Rattle.std.proofs.Common.{◌≡◌, ℕ, suc, ◌+◌, Bool, true, false, cond, List, [], ◌∷◌, ◌++◌, length, map, Option, Some, None, refl, ap, ◌∙◌, slice_get, arith}
 use Rattle.std.specs.Option.{option_map, option_and_then}
 use Rattle.std.specs.List.{position_from, find, flat_map}
 use Rattle.std.proofs.lemmas.List.{append-nil, map-append}
@@ -7,10 +7,13 @@ use Rattle.std.proofs.lemmas.List.Folds.{flat_map-map}
 use Rattle.std.proofs.lemmas.Grind.{flat_map-append}
 use Rattle.rsml_syntax.specs.declared.syntax.Guard.{Guard}
 use Rattle.rsml_syntax.specs.declared.syntax.Row.{Row}
-use Rattle.rsml_syntax.specs.Written.{rows_of, variable_of}
-use Rattle.rsml_syntax.specs.Names.{Name}
-use Rattle.rsml_syntax.specs.Scopes.{Variable, variable_at}
-use Rattle.rsml_names.specs.Bound.{joined, of_phrase, of_rows, of_guard}
+use Rattle.rsml_syntax.specs.grammar.Written.{rows_of, variable_of, variables_in}
+use Rattle.rsml_syntax.specs.text.Names.{Name}
+use Rattle.rsml_syntax.specs.declared.syntax.Decl.{Decl}
+use Rattle.rsml_syntax.specs.rules.Globals.{Known, known_values, known_by, values_of, names_of, globals}
+use Rattle.rsml_syntax.specs.rules.Scopes.{Variable, variable_at, variables, variables_of_part}
+use Rattle.rsml_syntax.specs.grammar.Parts.{declared}
+use Rattle.rsml_names.specs.Bound.{joined, of_phrase, of_rows, of_guard, variables_from}
 use Rattle.rsml_names.proofs.NamesLemmas.{placed_later}
 
 -- one more name with its place is one more variable
@@ -72,3 +75,24 @@ of_guards place (g ∷ gs) =
 pub of_cases : {A : Type 0} (guard : A → Guard) (place : ℕ) (cases : List A) →
     map (variable_at place) (flat_map of_row (flat_map rows_of (map guard cases))) ≡ flat_map (λ (c : A). of_guard place (guard c)) cases
 of_cases guard place cases = of_guards place (map guard cases) ∙ flat_map-map (of_guard place) guard cases
+
+-- THE VARIABLES OF GLOBAL NAMES
+
+-- the values of an enumeration have none
+of_values : (d : Decl) (place i : ℕ) (values : List Name) (rest : List Known) →
+    variables_from place (known_values d i values ++ rest) ≡ variables_from (place + length values) rest
+of_values d place i [] rest = ap (λ (p : ℕ). variables_from p rest) (omega arith)
+of_values d place i (v ∷ vs) rest =
+    of_values d (place + 1) (i + 1) vs rest ∙ ap (λ (p : ℕ). variables_from p rest) (omega arith)
+
+-- the variables of declarations, by their global names
+of_known : (place : ℕ) (decls : List Decl) → variables_from place (flat_map known_by decls) ≡ flat_map variables_of_part (declared place decls)
+of_known place [] = refl
+of_known place (d ∷ ds) =
+    ap (λ (vs : List Variable). map (variable_at place) (variables_in d) ++ vs)
+    (of_values d (place + 1) 0 (values_of d) (flat_map known_by ds)
+    ∙ ap (λ (p : ℕ). variables_from p (flat_map known_by ds)) (omega arith)
+    ∙ of_known (place + length (names_of d)) ds)
+
+pub of_globals : (decls : List Decl) → variables_from 0 (globals decls).known ≡ variables decls
+of_globals decls = of_known 0 decls

@@ -5,9 +5,9 @@ use Rattle.std.proofs.lemmas.Option.{same_Some}
 use Rattle.std.specs.Option.{option_map, option_and_then}
 use Rattle.std.specs.List.{position_from, find}
 use Rattle.rsml_syntax.specs.declared.syntax.StateDecl.{StateDecl}
-use Rattle.rsml_syntax.specs.Names.{Name, same, place_of}
-use Rattle.rsml_syntax.specs.Uses.{child_named}
-use Rattle.rsml_syntax.specs.Parts.{children_of}
+use Rattle.rsml_syntax.specs.text.Names.{Name, same, place_of}
+use Rattle.rsml_syntax.specs.rules.Uses.{child_named}
+use Rattle.rsml_syntax.specs.grammar.Parts.{children_of}
 use Rattle.rsml_names.proofs.NamesLemmas.{placed_later}
 use Rattle.rsml_names.specs.Kin.{Family, Holds, AreBelow, Fits, AreFamilies, Grown, child_at, child_of, IsChild, HoldsSome}
 

@@ -1,7 +1,7 @@
 -- The places of names: what a name that is put last changes.
 use Rattle.std.proofs.Common.{◌≡◌, ℕ, ◌+◌, Bool, true, false, cond, List, [], ◌∷◌, ◌++◌, length, Option, Some, None, is_some, refl, sym, ap, ◌∙◌, arith, true≢false, map, Bor, suc, add-one}
 use Rattle.std.specs.Option.{option_map}
-use Rattle.rsml_syntax.specs.Names.{Name, same, place_of, is_in}
+use Rattle.rsml_syntax.specs.text.Names.{Name, same, place_of, is_in}
 use Rattle.std.specs.List.{position_from}
 use Rattle.std.specs.Cmp.Lexicographic.{nat_list_eq_equiv, same_text}
 

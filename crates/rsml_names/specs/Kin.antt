@@ -2,8 +2,8 @@
 use Rattle.std.specs.Prelude.{◌≡◌, ℕ, ⊤, List, [], ◌∷◌, ◌++◌, map, Option, Some, None, slice_get}
 use Rattle.std.specs.Option.{option_map, option_and_then}
 use Rattle.rsml_syntax.specs.declared.syntax.StateDecl.{StateDecl}
-use Rattle.rsml_syntax.specs.Names.{Name, place_of}
-use Rattle.rsml_syntax.specs.Parts.{children_of}
+use Rattle.rsml_syntax.specs.text.Names.{Name, place_of}
+use Rattle.rsml_syntax.specs.grammar.Parts.{children_of}
 
 -- The children of one state, their names, and for each the number of the family of its own children.
 pub record Family : Type 0 where

@@ -1,6 +1,9 @@
+//! What a state's body is made of.
+#![tactic(auto, using(crate::proofs::Children::children_of_all, crate::proofs::Children::children_of_one))]
+
 ghost use Rattle.std.specs.Prelude.{◌≡◌};
 ghost use Rattle.std.specs.Option.{option_copied};
-ghost use Rattle.rsml_syntax.specs.Parts as parts;
+ghost use Rattle.rsml_syntax.specs.grammar.Parts as parts;
 
 use rsml_syntax::{Body, Bus, StateDecl, Text, Transition};
 

@@ -1,7 +1,7 @@
 ghost use Rattle.std.specs.Prelude.{◌≡◌};
 ghost use Rattle.std.specs.Option.{option_copied};
-ghost use Rattle.rsml_syntax.specs.Globals as globals;
-ghost use Rattle.rsml_syntax.specs.Written as written;
+ghost use Rattle.rsml_syntax.specs.rules.Globals as globals;
+ghost use Rattle.rsml_syntax.specs.grammar.Written as written;
 
 use rsml_syntax::{Amount, Answer, Decl, Guard, Phrase, Row, Signed, Simple, Text, Value};
 

@@ -1,13 +1,13 @@
 ghost use Rattle.std.specs.Prelude.{◌≡◌, [], ◌∷◌, ◌++◌, IfOk, IfSome, List, map, slice_get, Some, length};
 ghost use Rattle.std.specs.Option.{option_copied, option_map};
 ghost use Rattle.rsml_syntax.specs.declared.syntax.StateDecl.{StateDecl as State};
-ghost use Rattle.rsml_syntax.specs.Parts as parts;
-ghost use Rattle.rsml_syntax.specs.Names.{place_of};
-ghost use Rattle.rsml_syntax.specs.Uses.{child_named};
+ghost use Rattle.rsml_syntax.specs.grammar.Parts as parts;
+ghost use Rattle.rsml_syntax.specs.text.Names.{place_of};
+ghost use Rattle.rsml_syntax.specs.rules.Uses.{child_named};
 ghost use Rattle.rsml_names.specs.Kin.{Holds, HoldsSome, Fits, IsChild, Grown, child_of};
 
 use crate::bodies::children_of;
-use crate::names::Names;
+use crate::name_list::NameList;
 use rsml_syntax::{Body, NoMemory, StateDecl};
 use std::alloc::Global;
 use std::marker::Model;
@@ -16,7 +16,7 @@ use std::marker::Model;
 #[derive(Drop)]
 struct Family<'a> {
     children: &'a [StateDecl],
-    names: Names<'a>,
+    names: NameList<'a>,
     below: Vec<usize>,
 }
 
@@ -29,7 +29,8 @@ impl<'a> Model for Family<'a> {
 
     ghost coded = { Prim.hlevel (codes, states.the_row.coded) };
 
-    ghost view = { λ f. record { children = f.children.now; names = f.names; below = f.below.items } };
+    ghost view = { λ f.
+        record { children = f.children.now; names = f.names; below = f.below.items } };
 }
 
 impl<'a> Family<'a> {
@@ -93,7 +94,7 @@ impl<'a> Model for Families<'a> {
 
 impl<'a> Families<'a> {
     /// The families of a state and of all that is in it, and the number of its own.
-    pub fn of(alloc: Global, body: &'a Body) -> Result<(Families<'a>, usize), NoMemory>
+    pub fn new(alloc: Global, body: &'a Body) -> Result<(Families<'a>, usize), NoMemory>
         ensures { IfOk result (λ r. Holds r.0 r.1 (parts.children_of body.now)) }
     {
         let none = Families {
@@ -105,7 +106,8 @@ impl<'a> Families<'a> {
     /// These families with those of a state and of all that is in it, and the number of its own.
     #[cycle(families)]
     fn with(self, alloc: Global, body: &'a Body) -> Result<(Families<'a>, usize), NoMemory>
-        ensures { IfOk result (λ r. Grown self.entry r.0 × Holds r.0 r.1 (parts.children_of body.now)) }
+        ensures { IfOk result
+            (λ r. Grown self.entry r.0 × Holds r.0 r.1 (parts.children_of body.now)) }
     {
         match body {
             Body::Basic => self.with_children(alloc, &[]),
@@ -124,11 +126,10 @@ impl<'a> Families<'a> {
         ensures { IfOk result (λ r. Grown self.entry r.0 × Holds r.0 r.1 children.now) }
     {
         let mut families = self;
-        let mut names = Names::new(alloc);
+        let mut names = NameList::new(alloc);
         let mut below = Vec::new(alloc);
         for child in children {
-            let (more, _) = names.put(child.name.bytes())?;
-            names = more;
+            names.add(child.name.bytes())?;
             let (grown, number) = families.with(alloc, &child.body)?;
             families = grown;
             below.push(number)?;
@@ -143,7 +144,8 @@ impl<'a> Families<'a> {
     /// These families with one more that fits, and its number.
     fn put(self, family: Family<'a>) -> Result<(Families<'a>, usize), NoMemory>
         requires { Fits self family }
-        ensures { IfOk result (λ r. (r.0 ≡ self.entry ++ family.entry ∷ []) × (r.1 ≡ length self.entry)) }
+        ensures { IfOk result
+            (λ r. (r.0 ≡ self.entry ++ family.entry ∷ []) × (r.1 ≡ length self.entry)) }
     {
         let Families { mut all } = self;
         let number = all.len();
@@ -161,14 +163,16 @@ impl<'a> Families<'a> {
 
     /// A child of a family, by its name.
     pub fn child(&self, family: usize, name: &[u8]) -> Option<Child<'a>>
-        ensures { (children : List State) → Holds self.now family children → IsChild self.now (child_named name.now children) result }
+        ensures { (children : List State) → Holds self.now family children
+            → IsChild self.now (child_named name.now children) result }
     {
         self.family(family)?.child(name)
     }
 
     /// The names of the children of a family.
-    pub fn names(&self, family: usize) -> Option<&Names<'a>>
-        ensures { (children : List State) → Holds self.now family children → option_copied result ≡ Some (map (λ c. c.name) children) }
+    pub fn names(&self, family: usize) -> Option<&NameList<'a>>
+        ensures { (children : List State) → Holds self.now family children
+            → option_copied result ≡ Some (map (λ c. c.name) children) }
     {
         match self.family(family) {
             Some(family) => Some(&family.names),
@@ -178,7 +182,8 @@ impl<'a> Families<'a> {
 
     /// The number of the family of a child, by the child's place.
     pub fn below(&self, family: usize, place: usize) -> Option<usize>
-        ensures { (children : List State) (child : State) → Holds self.now family children → slice_get children place ≡ Some child → HoldsSome self.now result (parts.children_of child.body) }
+        ensures { (children : List State) (child : State) → Holds self.now family children
+            → slice_get children place ≡ Some child → HoldsSome self.now result (parts.children_of child.body) }
     {
         self.family(family)?.below(place)
     }

@@ -1,11 +1,11 @@
-ghost use Rattle.std.specs.Prelude.{◌≡◌, ◌++◌, IfOk, slice_get, length};
+ghost use Rattle.std.specs.Prelude.{◌≡◌, ◌++◌, IfOk, OnOk, slice_get, length};
 ghost use Rattle.std.specs.Option.{option_copied, option_map};
-ghost use Rattle.rsml_syntax.specs.Names.{place_of};
-ghost use Rattle.rsml_syntax.specs.Globals as spec;
-ghost use Rattle.rsml_syntax.specs.Scopes as scopes;
+ghost use Rattle.rsml_syntax.specs.text.Names.{place_of};
+ghost use Rattle.rsml_syntax.specs.rules.Globals as spec;
+ghost use Rattle.rsml_syntax.specs.rules.Scopes as scopes;
 
 use crate::declarations::{name_of, number_of, size_of, values_of};
-use crate::names::Names;
+use crate::name_list::NameList;
 use rsml_syntax::{Amount, Decl, NoMemory, Text};
 use std::alloc::Global;
 use std::marker::Model;
@@ -19,7 +19,7 @@ pub struct Known<'a> {
 }
 
 impl<'a> Model for Known<'a> {
-    ghost use Rattle.rsml_syntax.specs.Globals as spec;
+    ghost use Rattle.rsml_syntax.specs.rules.Globals as spec;
 
     ghost Value = { spec.Known };
 
@@ -48,12 +48,12 @@ impl<'a> Known<'a> {
 /// All global names in the order of their declaration, and what each is.
 #[derive(Drop)]
 pub struct Globals<'a> {
-    names: Names<'a>,
+    names: NameList<'a>,
     known: Vec<Known<'a>>,
 }
 
 impl<'a> Model for Globals<'a> {
-    ghost use Rattle.rsml_syntax.specs.Globals as spec;
+    ghost use Rattle.rsml_syntax.specs.rules.Globals as spec;
 
     ghost Value = { spec.Globals };
 
@@ -62,36 +62,35 @@ impl<'a> Model for Globals<'a> {
 
 impl<'a> Globals<'a> {
     /// The global names of declarations.
-    pub fn of(alloc: Global, decls: &'a [Decl]) -> Result<Globals<'a>, NoMemory>
+    pub fn new(alloc: Global, decls: &'a [Decl]) -> Result<Globals<'a>, NoMemory>
         ensures { IfOk result (λ g. g ≡ spec.globals decls.now) }
     {
         let mut globals = Globals {
-            names: Names::new(alloc),
+            names: NameList::new(alloc),
             known: Vec::new(alloc),
         };
         for decl in decls {
-            globals = globals.with(decl)?;
+            globals.add(decl)?;
         }
         Ok(globals)
     }
 
-    /// These and the names of one more declaration.
+    /// Adds the names of a declaration.
     #[tactic(auto, using(crate::proofs::Gathering::names_turn, crate::proofs::Gathering::known_turn))]
-    fn with(self, decl: &'a Decl) -> Result<Globals<'a>, NoMemory>
-        ensures { IfOk result (λ g. (g.names ≡ self.entry.names ++ spec.names_of decl.now) × (g.known ≡ self.entry.known ++ spec.known_by decl.now)) }
+    fn add(&mut self, decl: &'a Decl) -> Result<(), NoMemory>
+        ensures names { OnOk result (self.new.names ≡ self.old.names ++ spec.names_of decl.now) }
+        ensures known { OnOk result (self.new.known ≡ self.old.known ++ spec.known_by decl.now) }
     {
-        let Globals { names, mut known } = self;
-        let (mut names, _) = names.put(name_of(decl).bytes())?;
-        known.push(Known { decl, value: None })?;
+        self.names.add(name_of(decl).bytes())?;
+        self.known.push(Known { decl, value: None })?;
         for (number, value) in values_of(decl).iter().enumerate() {
-            let (more, _) = names.put(value.bytes())?;
-            names = more;
-            known.push(Known {
+            self.names.add(value.bytes())?;
+            self.known.push(Known {
                 decl,
                 value: Some(number),
             })?;
         }
-        Ok(Globals { names, known })
+        Ok(())
     }
 
     /// How many global names there are.
@@ -126,20 +125,14 @@ impl<'a> Globals<'a> {
     pub fn meaning(&self, name: &Text) -> Option<&Known<'a>>
         ensures { option_copied result ≡ spec.meaning self.now name.now }
     {
-        match self.place(name) {
-            Some(place) => self.at(place),
-            None => None,
-        }
+        self.at(self.place(name)?)
     }
 
     /// The number of a constant.
     pub fn constant(&self, name: &Text) -> Option<i64>
         ensures { result ≡ spec.constant self.now name.now }
     {
-        match self.meaning(name) {
-            Some(known) => known.constant(),
-            None => None,
-        }
+        self.meaning(name)?.constant()
     }
 
     /// The number of a size or of a bound.
@@ -156,21 +149,15 @@ impl<'a> Globals<'a> {
     pub fn size(&self, size: Option<&Amount>) -> Option<i64>
         ensures { result ≡ scopes.size_number self.now (option_copied size.entry) }
     {
-        match size {
-            Some(size) => self.amount(size),
-            None => None,
-        }
+        self.amount(size?)
     }
 
     /// How many there are of what is declared with this size.
     pub fn many(&self, size: Option<&Amount>) -> u64
         ensures { result ≡ spec.many self.now (option_copied size.entry) }
     {
-        match size {
-            Some(size) => match self.amount(size) {
-                Some(number) => number.unsigned_abs(),
-                None => 1,
-            },
+        match self.size(size) {
+            Some(number) => number.unsigned_abs(),
             None => 1,
         }
     }

@@ -1,9 +1,10 @@
 ghost use Rattle.std.specs.Prelude.{◌≡◌};
 ghost use Rattle.std.specs.Option.{option_copied, option_map};
-ghost use Rattle.rsml_syntax.specs.Scopes as spec;
-ghost use Rattle.rsml_syntax.specs.Declarations as declarations;
+ghost use Rattle.rsml_syntax.specs.grammar.Parts as parts;
+ghost use Rattle.rsml_syntax.specs.rules.Scopes as spec;
+ghost use Rattle.rsml_syntax.specs.rules.Declarations as declarations;
 
-use crate::whole::Whole;
+use crate::name_tables::NameTables;
 use rsml_syntax::{Amount, Text};
 use std::marker::Model;
 
@@ -20,20 +21,32 @@ pub struct Scope<'a> {
 
 impl<'a> Model for Scope<'a> {
     ghost use Rattle.std.specs.Option.{option_map};
-    ghost use Rattle.rsml_syntax.specs.Scopes as spec;
+    ghost use Rattle.rsml_syntax.specs.rules.Scopes as spec;
 
     ghost Value = { spec.Scope };
 
-    ghost view = { λ s. record { before = s.before; this = s.this; variable = option_map (λ v. (v.0.now, v.1)) s.variable } };
+    ghost view = { λ s. record {
+      before = s.before;
+      this = s.this;
+      variable = option_map (λ v. (v.0.now, v.1)) s.variable;
+    } };
+}
+
+/// Of an array and the one around it, the inner one.
+pub fn nearer<'a>(own: Option<&'a Amount>, around: Option<&'a Amount>) -> Option<&'a Amount>
+    ensures { option_copied result
+        ≡ parts.nearer (option_copied own.entry) (option_copied around.entry) }
+{
+    own.or(around)
 }
 
 /// Where a declaration of this place and size stands.
-pub fn scope_at<'a>(whole: &Whole<'a>, place: usize, size: Option<&Amount>) -> Scope<'a>
-    ensures { result ≡ declarations.scope_at whole.now place (option_copied size.entry) }
+pub fn scope_at<'a>(tables: &NameTables<'a>, place: usize, size: Option<&Amount>) -> Scope<'a>
+    ensures { result ≡ declarations.scope_at tables.now place (option_copied size.entry) }
 {
     Scope {
         before: place,
-        this: whole.globals.size(size),
+        this: tables.globals.size(size),
         variable: None,
     }
 }

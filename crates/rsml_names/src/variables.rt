@@ -1,13 +1,13 @@
-ghost use Rattle.std.specs.Prelude.{◌≡◌, [], ◌∷◌, ◌++◌, IfOk, find, flat_map, length, map};
+ghost use Rattle.std.specs.Prelude.{◌≡◌, [], ◌∷◌, ◌++◌, IfOk, find, flat_map, map};
 ghost use Rattle.std.specs.Option.{option_map};
-ghost use Rattle.rsml_syntax.specs.Names.{same};
-ghost use Rattle.rsml_syntax.specs.Scopes as spec;
-ghost use Rattle.rsml_syntax.specs.Written as written;
-ghost use Rattle.rsml_syntax.specs.Globals as globals;
+ghost use Rattle.rsml_syntax.specs.text.Names.{same};
+ghost use Rattle.rsml_syntax.specs.rules.Scopes as spec;
+ghost use Rattle.rsml_syntax.specs.grammar.Written as written;
 ghost use Rattle.rsml_names.specs.Bound as names;
 
-use crate::declarations::{rows_of, values_of};
-use crate::names::Names;
+use crate::declarations::rows_of;
+use crate::globals::{Globals, Known};
+use crate::name_list::NameList;
 use rsml_syntax::{Case, Decl, NoMemory, Phrase, Row, SendCase, Text};
 use std::alloc::Global;
 use std::marker::Model;
@@ -15,13 +15,13 @@ use std::marker::Model;
 /// The variables of quantifiers in order, each with the place of the declaration that it stands in.
 #[derive(Drop)]
 pub struct Variables<'a> {
-    names: Names<'a>,
+    names: NameList<'a>,
     places: Vec<usize>,
 }
 
 impl<'a> Model for Variables<'a> {
     ghost use Rattle.std.specs.Prelude.{◌≡◌, List, length};
-    ghost use Rattle.rsml_syntax.specs.Scopes as spec;
+    ghost use Rattle.rsml_syntax.specs.rules.Scopes as spec;
     ghost use Rattle.rsml_names.specs.Bound.{joined};
 
     ghost Value = { List spec.Variable };
@@ -32,27 +32,35 @@ impl<'a> Model for Variables<'a> {
 }
 
 impl<'a> Variables<'a> {
-    /// The variables of declarations. `names` is how many global names these have.
-    pub fn of(alloc: Global, decls: &'a [Decl], names: usize) -> Result<Variables<'a>, NoMemory>
-        requires { names ≡ length (flat_map globals.names_of decls.now) }
-        ensures { IfOk result (λ v. v ≡ spec.variables decls.now) }
+    /// The variables of the declarations that have these global names.
+    pub fn new(alloc: Global, globals: &Globals<'a>) -> Result<Variables<'a>, NoMemory>
+        ensures { IfOk result (λ v. v ≡ names.variables_from 0 globals.now.known) }
     {
         let mut variables = Variables {
-            names: Names::new(alloc),
+            names: NameList::new(alloc),
             places: Vec::new(alloc),
         };
-        let mut place: usize = 0;
-        for decl in decls {
-            variables = variables.with(place, decl)?;
-            place += 1 + values_of(decl).len();
+        for (place, known) in globals.all().iter().enumerate() {
+            variables = variables.with_known(place, known)?;
         }
         Ok(variables)
+    }
+
+    /// These and, at a declaration's own name, its variables.
+    fn with_known(self, place: usize, known: &Known<'a>) -> Result<Variables<'a>, NoMemory>
+        ensures { IfOk result (λ v. v ≡ self.entry ++ names.variables_at place known.now) }
+    {
+        match known.value {
+            Some(_) => Ok(self),
+            None => self.with(place, known.decl),
+        }
     }
 
     /// These and the variables of a declaration of this place.
     #[tactic(auto, using(crate::proofs::BoundLemmas::of_macro))]
     fn with(self, place: usize, decl: &'a Decl) -> Result<Variables<'a>, NoMemory>
-        ensures { IfOk result (λ v. v ≡ self.entry ++ map (spec.variable_at place) (written.variables_in decl.now)) }
+        ensures { IfOk result (λ v. v
+            ≡ self.entry ++ map (spec.variable_at place) (written.variables_in decl.now)) }
     {
         match decl {
             Decl::Macro { rows, .. } => self.with_rows(place, rows.as_slice()),
@@ -64,7 +72,8 @@ impl<'a> Variables<'a> {
 
     /// These and the variables of the cases of a function.
     fn with_cases(self, place: usize, cases: &'a [Case]) -> Result<Variables<'a>, NoMemory>
-        ensures { IfOk result (λ v. v ≡ self.entry ++ flat_map (λ c. names.of_guard place c.guard) cases.now) }
+        ensures { IfOk result (λ v. v
+            ≡ self.entry ++ flat_map (λ c. names.of_guard place c.guard) cases.now) }
     {
         let mut variables = self;
         for case in cases {
@@ -75,7 +84,8 @@ impl<'a> Variables<'a> {
 
     /// These and the variables of the cases of a send.
     fn with_send_cases(self, place: usize, cases: &'a [SendCase]) -> Result<Variables<'a>, NoMemory>
-        ensures { IfOk result (λ v. v ≡ self.entry ++ flat_map (λ c. names.of_guard place c.guard) cases.now) }
+        ensures { IfOk result (λ v. v
+            ≡ self.entry ++ flat_map (λ c. names.of_guard place c.guard) cases.now) }
     {
         let mut variables = self;
         for case in cases {
@@ -110,8 +120,11 @@ impl<'a> Variables<'a> {
     fn put(self, place: usize, name: &'a Text) -> Result<Variables<'a>, NoMemory>
         ensures { IfOk result (λ v. v ≡ self.entry ++ spec.variable_at place name.now ∷ []) }
     {
-        let Variables { names, mut places } = self;
-        let (names, _) = names.put(name.bytes())?;
+        let Variables {
+            mut names,
+            mut places,
+        } = self;
+        names.add(name.bytes())?;
         places.push(place)?;
         Ok(Variables { names, places })
     }

@@ -1,16 +1,16 @@
 -- Reading answers as the definitions ask: a specification, or the place of the fault.
-use Rattle.std.proofs.Common.{◌≡◌, ◌⊎◌, inl, inr, ℕ, zero, suc, ◌+◌, ◌-◌, ◌≤◌, Bool, true, false, List, [], ◌∷◌, ◌++◌, length, length-append, Result, Ok, Err, append-nil, append_assoc, refl, sym, ap, subst, ◌∙◌, arith}
-use Rattle.std.specs.Prelude.{◌≢◌, ◌&&◌, nat_le, IsTrue, IfOk}
+use Rattle.std.proofs.Common.{◌≡◌, ℕ, suc, ◌+◌, ◌≤◌, true, false, [], ◌∷◌, ◌++◌, length, length-append, Result, Ok, Err, append-nil, append_assoc, refl, sym, ap, subst, ◌∙◌, arith}
+use Rattle.std.specs.Prelude.{nat_le, IsTrue, IfOk}
 use Rattle.std.specs.List.{list_all}
 use Rattle.std.proofs.lemmas.Bool.{leb-true, le-leb}
-use Rattle.rsml_syntax.specs.Grammar.{tokens_of}
-use Rattle.rsml_syntax.specs.Places.{IsTokensOf, Begins, BeginsWithin, StopsAt, IsSyntaxPlace, IsDepthPlace, IsSyntaxFault}
-use Rattle.rsml_syntax.specs.Tokens.{Tokens, IsToken}
-use Rattle.rsml_syntax.specs.WellFormed.{WellFormed, declaration_has_items, body_has_items, depth_of, nests}
+use Rattle.rsml_syntax.specs.grammar.Grammar.{tokens_of}
+use Rattle.rsml_syntax.specs.grammar.Places.{IsTokensOf, Begins, BeginsWithin, StopsAt, IsDepthPlace, IsSyntaxFault}
+use Rattle.rsml_syntax.specs.text.Tokens.{Tokens}
+use Rattle.rsml_syntax.specs.grammar.WellFormed.{WellFormed, declaration_has_items, body_has_items, depth_of, nests}
 use Rattle.rsml_syntax.specs.declared.syntax.Spec.{Spec}
 use Rattle.rsml_syntax.specs.declared.token.Token.{Token}
-use Rattle.rsml_parser.specs.Answers.{Answers, answer, place_of, room}
-use Rattle.rsml_parser.specs.Reading.{Stop, Outcome}
+use Rattle.rsml_parser.specs.Answers.{Answers, answer, token_place, room}
+use Rattle.rsml_parser.specs.Parsers.{Stop, Outcome}
 use Rattle.rsml_parser.specs.States.{whole}
 use Rattle.rsml_parser.specs.declared.error.ParseError.{ParseError}
 use Rattle.rsml_parser.specs.declared.error.ParseError.TheVariants as errors
@@ -22,7 +22,7 @@ use Rattle.rsml_parser.proofs.PlaceLemmas.{within, one_syntax_place, one_depth_p
 use Rattle.rsml_parser.proofs.Spelling.{both, halves}
 use Rattle.rsml_parser.proofs.SpecificationForms.{good_spec, form_whole, reads_all, whole_again}
 
-fit_front : (a b : Tokens) → Fit (a ++ b) → Fit a
+pub fit_front : (a b : Tokens) → Fit (a ++ b) → Fit a
 fit_front [] b fit = refl
 fit_front (t ∷ a) b fit = (fit.0, fit_front a b fit.1)
 
@@ -54,7 +54,7 @@ pub reads_again : (ts : Tokens) (s : Spec) → IsTokensOf ts s → whole room ts
 reads_again ts s is = ap (whole room) (sym is.tokens) ∙ whole_again room s (good_of 16 s is.well_formed is.depth)
 
 -- what comes before a fault begins a specification
-front_begins : (ts : Tokens) (s : Stop) → Fit ts → whole room ts ≡ Err s → (front : Tokens) × (ts ≡ front ++ s.1) × BeginsWithin front
+pub front_begins : (ts : Tokens) (s : Stop) → Fit ts → whole room ts ≡ Err s → (front : Tokens) × (ts ≡ front ++ s.1) × BeginsWithin front
 front_begins ts s fit h =
     let b = (form_whole room).begins false ts s h in
     let u = b.1 [] refl in
@@ -83,25 +83,37 @@ stops ts front [] e h = λ s is same. no_fault s [] is (ap (whole room) (same �
 stops ts front (t ∷ a) e h = λ c.
     no_fault c.0 (t ∷ c.1) c.2 (ap (whole room) (c.3 ∙ append_assoc front (t ∷ []) c.1) ∙ (form_whole room).fails front t a c.1 false [] (sym (ap (whole room) e) ∙ h))
 
-not_within : (ts front : Tokens) (t : Token) (a : Tokens) → ts ≡ front ++ t ∷ a → whole room ts ≡ Err (true, t ∷ a) → BeginsWithin (front ++ t ∷ []) → ⊥
+pub not_within : (ts front : Tokens) (t : Token) (a : Tokens) → ts ≡ front ++ t ∷ a → whole room ts ≡ Err (true, t ∷ a) → BeginsWithin (front ++ t ∷ []) → ⊥
 not_within ts front t a e h c =
     not_both (whole room (tokens_of c.0)) (c.0, []) (true, t ∷ c.1) (whole_again room c.0 (good_of 16 c.0 c.2 c.3))
     (ap (whole room) (c.4 ∙ append_assoc front (t ∷ []) c.1) ∙ (form_whole room).fails front t a c.1 true [] (sym (ap (whole room) e) ∙ h))
 
-place_is : (ts front left : Tokens) → ts ≡ front ++ left → place_of ts left ≡ length front + 1
+place_is : (ts front left : Tokens) → ts ≡ front ++ left → token_place ts left ≡ length front + 1
 place_is ts front left e = let n = ap length e in let m = length-append front left in omega (arith, n, m)
 
-syntax_fault : (ts left : Tokens) → Fit ts → whole room ts ≡ Err (false, left) → IsSyntaxFault ts (place_of ts left)
+pub syntax_fault : (ts left : Tokens) → Fit ts → whole room ts ≡ Err (false, left) → IsSyntaxFault ts (token_place ts left)
 syntax_fault ts left fit h =
     let b = front_begins ts (false, left) fit h in
     let s = stops ts b.0 left b.1 h in
-    ((b.0, left, b.1, place_is ts b.0 left b.1, within b.0 b.2, s), no_depth_place ts b.0 left b.1 b.2 s)
+    record {
+      syntax = record { before = b.0; rest = left; split = b.1; here = place_is ts b.0 left b.1; begins = within b.0 b.2; stops = s };
+      not_deep = no_depth_place ts b.0 left b.1 b.2 s;
+    }
 
-depth_place : (ts left : Tokens) → Fit ts → whole room ts ≡ Err (true, left) → IsDepthPlace ts (place_of ts left)
+pub depth_place : (ts left : Tokens) → Fit ts → whole room ts ≡ Err (true, left) → IsDepthPlace ts (token_place ts left)
 depth_place ts [] fit h = absurd ((form_whole room).opens ts h)
 depth_place ts (t ∷ a) fit h =
     let b = front_begins ts (true, t ∷ a) fit h in
-    (b.0, t, a, b.1, place_is ts b.0 (t ∷ a) b.1, b.2, opening_begins ts b.0 t a fit b.1 h, not_within ts b.0 t a b.1 h)
+    record {
+      before = b.0;
+      token = t;
+      rest = a;
+      split = b.1;
+      here = place_is ts b.0 (t ∷ a) b.1;
+      within = b.2;
+      begins = opening_begins ts b.0 t a fit b.1 h;
+      too_deep = not_within ts b.0 t a b.1 h;
+    }
 
 -- What is answered.
 
@@ -127,7 +139,7 @@ module _ (ts : Tokens) (fit : Fit ts) (result : Result Spec ParseError) (is : An
       read : (o : Outcome Spec) → whole room ts ≡ o → Err (errors.Syntax place) ≡ answer ts o → IsSyntaxFault ts place
       read (Ok p) e a = absurd cc
       read (Err (true, left)) e a = absurd cc
-      read (Err (false, left)) e a = subst (IsSyntaxFault ts) (let same : place_of ts left ≡ place = cc in same) (syntax_fault ts left fit e)
+      read (Err (false, left)) e a = subst (IsSyntaxFault ts) (let same : token_place ts left ≡ place = cc in same) (syntax_fault ts left fit e)
 
   pub answers_deep : (place : ℕ) → result ≡ Err (errors.TooDeep place) → IsDepthPlace ts place
   answers_deep place h = read (whole room ts) refl (sym h ∙ is (λ n. cc))
@@ -135,20 +147,20 @@ module _ (ts : Tokens) (fit : Fit ts) (result : Result Spec ParseError) (is : An
       read : (o : Outcome Spec) → whole room ts ≡ o → Err (errors.TooDeep place) ≡ answer ts o → IsDepthPlace ts place
       read (Ok p) e a = absurd cc
       read (Err (false, left)) e a = absurd cc
-      read (Err (true, left)) e a = subst (IsDepthPlace ts) (let same : place_of ts left ≡ place = cc in same) (depth_place ts left fit e)
+      read (Err (true, left)) e a = subst (IsDepthPlace ts) (let same : token_place ts left ≡ place = cc in same) (depth_place ts left fit e)
 
   pub answers_syntax_only : (place : ℕ) → IsSyntaxFault ts place → Answers result (Err (errors.Syntax place))
   answers_syntax_only place fault memory = is memory ∙ read (whole room ts) refl
     where
       read : (o : Outcome Spec) → whole room ts ≡ o → answer ts o ≡ Err (errors.Syntax place)
-      read (Ok p) e = absurd (no_syntax_place_of ts p.0 (reads_tokens ts p.0 p.1 fit e) place fault.0)
-      read (Err (true, left)) e = absurd (fault.1 (place_of ts left) (depth_place ts left fit e))
-      read (Err (false, left)) e = ap (λ (n : ℕ). Err (errors.Syntax n)) (one_syntax_place ts (place_of ts left) place (syntax_fault ts left fit e).0 fault.0)
+      read (Ok p) e = absurd (no_syntax_place_of ts p.0 (reads_tokens ts p.0 p.1 fit e) place fault.syntax)
+      read (Err (true, left)) e = absurd (fault.not_deep (token_place ts left) (depth_place ts left fit e))
+      read (Err (false, left)) e = ap (λ (n : ℕ). Err (errors.Syntax n)) (one_syntax_place ts (token_place ts left) place (syntax_fault ts left fit e).syntax fault.syntax)
 
   pub answers_deep_only : (place : ℕ) → IsDepthPlace ts place → Answers result (Err (errors.TooDeep place))
   answers_deep_only place depth memory = is memory ∙ read (whole room ts) refl
     where
       read : (o : Outcome Spec) → whole room ts ≡ o → answer ts o ≡ Err (errors.TooDeep place)
       read (Ok p) e = absurd (no_depth_place_of ts p.0 (reads_tokens ts p.0 p.1 fit e) place depth)
-      read (Err (false, left)) e = absurd ((syntax_fault ts left fit e).1 place depth)
-      read (Err (true, left)) e = ap (λ (n : ℕ). Err (errors.TooDeep n)) (one_depth_place ts (place_of ts left) place (depth_place ts left fit e) depth)
+      read (Err (false, left)) e = absurd ((syntax_fault ts left fit e).not_deep place depth)
+      read (Err (true, left)) e = ap (λ (n : ℕ). Err (errors.TooDeep n)) (one_depth_place ts (token_place ts left) place (depth_place ts left fit e) depth)

@@ -1,13 +1,13 @@
 -- The bodies that are spelled are read again.
-use Rattle.std.proofs.Common.{◌≡◌, ◌⊎◌, inl, inr, ℕ, zero, suc, ◌≤◌, Bool, true, false, List, [], ◌∷◌, Option, Some, None, Ok, Err, refl, sym, ap, subst, ◌∙◌, arith}
-use Rattle.std.specs.Prelude.{◌&&◌, nat_le, IsTrue, ⊤}
+use Rattle.std.proofs.Common.{◌≡◌, inl, inr, ℕ, zero, suc, Bool, true, false, List, [], ◌∷◌, Option, Some, None, Ok, refl, sym, ap, subst, ◌∙◌}
+use Rattle.std.specs.Prelude.{nat_le, IsTrue, ⊤}
 use Rattle.std.specs.List.{list_all}
 use Rattle.std.proofs.lemmas.Bool.{leb-true}
-use Rattle.rsml_syntax.specs.Grammar as put
-use Rattle.rsml_syntax.specs.Layout.{is_the_word}
-use Rattle.rsml_syntax.specs.Names.{Name}
-use Rattle.rsml_syntax.specs.Tokens.{Tokens}
-use Rattle.rsml_syntax.specs.WellFormed.{bus_has_items, transition_has_items, body_has_items, depth_of}
+use Rattle.rsml_syntax.specs.grammar.Grammar as put
+use Rattle.rsml_syntax.specs.grammar.Layout.{is_the_word}
+use Rattle.rsml_syntax.specs.text.Names.{Name}
+use Rattle.rsml_syntax.specs.text.Tokens.{Tokens}
+use Rattle.rsml_syntax.specs.grammar.WellFormed.{bus_has_items, transition_has_items, body_has_items, depth_of}
 use Rattle.rsml_syntax.specs.declared.token.Mark.TheVariants as marks
 use Rattle.rsml_syntax.specs.declared.token.Token.{Token}
 use Rattle.rsml_syntax.specs.declared.token.Word.TheVariants as words
@@ -16,7 +16,7 @@ use Rattle.rsml_syntax.specs.declared.syntax.Body.{Body, Basic, One, All}
 use Rattle.rsml_syntax.specs.declared.syntax.Bus.{Bus}
 use Rattle.rsml_syntax.specs.declared.syntax.StateDecl.{StateDecl}
 use Rattle.rsml_syntax.specs.declared.syntax.Transition.{Transition}
-use Rattle.rsml_parser.specs.Reading.{Reading, and_then, choose, first, sees_word, word, mark, name, many, until}
+use Rattle.rsml_parser.specs.Parsers.{Parser, and_then, first, sees_word, word, mark, name, many, until}
 use Rattle.rsml_parser.specs.States.{bus, transition, opens_state, plain_state, array_of_states, child, one_of, all_of, body_of, no_children, children, body}
 use Rattle.rsml_parser.proofs.BodyForms.{shrinks_child}
 use Rattle.rsml_parser.proofs.BodyLists.{kind, good_body, good_state, in_all, in_one, no_depth, tokens_of_all, tokens_of_one}
@@ -27,17 +27,17 @@ use Rattle.rsml_parser.proofs.Spelling.{halves}
 use Rattle.rsml_parser.proofs.StateForms.{item_bus, bus_again, item_transition, transition_again, transition_begins}
 
 -- bodies that nest at most so many states are read again
-pub record BodiesAgain (inner : Reading Body) (most : ℕ) : Type 0 where
+pub record BodiesAgain (inner : Parser Body) (most : ℕ) : Type 0 where
   pub again : (b : Body) (rest : Tokens) → IsTrue (good_body most b) → inner (put.body b rest) ≡ Ok (b, rest)
 
-pub record ChildrenAgain (inner : Reading (List StateDecl)) (most : ℕ) : Type 0 where
+pub record ChildrenAgain (inner : Parser (List StateDecl)) (most : ℕ) : Type 0 where
   pub again : (cs : List StateDecl) (rest : Tokens) → IsTrue (list_all (good_state most) cs) → first opens_state rest ≡ false → inner (put.each put.state cs rest) ≡ Ok (cs, rest)
 
-child_again : (most : ℕ) (inner : Reading Body) → BodiesAgain inner most → (c : StateDecl) (rest : Tokens) → IsTrue (good_state most c) → child inner (put.state c rest) ≡ Ok (c, rest)
-unfolding child plain_state array_of_states and_then word name
+child_again : (most : ℕ) (inner : Parser Body) → BodiesAgain inner most → (c : StateDecl) (rest : Tokens) → IsTrue (good_state most c) → child inner (put.state c rest) ≡ Ok (c, rest)
+unfolding and_then word name
 child_again most inner is c rest good = at c.size
   where
-    at : (size : Option Amount) → child inner (put.word (put.opening size) (put.name c.name (put.size size (put.body c.body rest))))
+    at : (size : Option Amount) → child inner (put.word (put.state_word size) (put.name c.name (put.size size (put.body c.body rest))))
         ≡ Ok ((let s : StateDecl = record { name = c.name; size = size; body = c.body } in s), rest)
     at None = rw (is.again c.body rest good) refl
     at (Some a) = rw (bracketed_amount_again a (put.body c.body rest), is.again c.body rest good) refl
@@ -45,7 +45,7 @@ child_again most inner is c rest good = at c.size
 child_begins : (c : StateDecl) (rest : Tokens) → first opens_state (put.state c rest) ≡ true
 child_begins c rest = at c.size
   where
-    at : (size : Option Amount) → first opens_state (put.word (put.opening size) (put.name c.name (put.size size (put.body c.body rest)))) ≡ true
+    at : (size : Option Amount) → first opens_state (put.word (put.state_word size) (put.name c.name (put.size size (put.body c.body rest)))) ≡ true
     at None = refl
     at (Some a) = refl
 
@@ -79,20 +79,20 @@ transitions_again : (ts : List Transition) (rest : Tokens) → IsTrue (list_all 
 transitions_again ts rest good =
     until_again marks.CloseBrace transition put.transition transition_has_items (λ _. ⊤) (λ t r is _. transition_again t r is) (λ t r _. transition_begins t r) (λ _ _ _. tt) (λ _. tt) item_transition.shrinks ts rest good
 
-module _ (most : ℕ) (inner : Reading (List StateDecl)) (is : ChildrenAgain inner most) where
+module _ (most : ℕ) (inner : Parser (List StateDecl)) (is : ChildrenAgain inner most) where
   one_again : (n : Name) (cs : List StateDecl) (bs : List Bus) (ts : List Transition) (rest : Tokens) → IsTrue (good_body (suc most) (One n cs bs ts)) → body_of inner (put.body (One n cs bs ts) rest) ≡ Ok (One n cs bs ts, rest)
-  unfolding body_of one_of and_then word mark name
+  unfolding and_then word mark name
   one_again n cs bs ts rest good =
       let parts = in_one most n cs bs ts good in
       ap (body_of inner) (tokens_of_one n cs bs ts rest)
       ∙ rw (is.again cs (put.each put.bus bs (put.each put.transition ts (put.mark marks.CloseBrace rest))) parts.0 (after_children bs ts rest), buses_again bs ts rest parts.1, transitions_again ts rest parts.2) refl
 
   all_again : (cs : List StateDecl) (rest : Tokens) → IsTrue (good_body (suc most) (All cs)) → body_of inner (put.body (All cs) rest) ≡ Ok (All cs, rest)
-  unfolding body_of all_of and_then word mark
+  unfolding and_then word mark
   all_again cs rest good = ap (body_of inner) (tokens_of_all cs rest) ∙ rw (is.again cs (put.mark marks.CloseBrace rest) (in_all most cs good) refl) refl
 
   basic_again : (rest : Tokens) → body_of inner (put.body Basic rest) ≡ Ok (Basic, rest)
-  unfolding body_of and_then mark
+  unfolding and_then mark
   basic_again rest = refl
 
   abbrev Again : Body → Type 0
@@ -110,7 +110,6 @@ module _ (most : ℕ) (inner : Reading (List StateDecl)) (is : ChildrenAgain inn
 -- Children, and bodies.
 
 no_children_again : ChildrenAgain no_children 0
-unfolding no_children
 no_children_again = record { again = again }
   where
     again : (cs : List StateDecl) (rest : Tokens) → IsTrue (list_all (good_state 0) cs) → first opens_state rest ≡ false → no_children (put.each put.state cs rest) ≡ Ok (cs, rest)
@@ -130,5 +129,4 @@ children_again (suc room) =
     }
 
 pub body_again : (room : ℕ) → BodiesAgain (body room) (suc room)
-unfolding body
 body_again room = body_of_again room (children room) (children_again room)

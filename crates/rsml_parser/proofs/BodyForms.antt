@@ -1,21 +1,20 @@
 -- The laws of reading bodies, in which states are nested.
-use Rattle.std.proofs.Common.{◌≡◌, ◌⊎◌, inl, inr, ℕ, zero, suc, Bool, true, false, List, [], ◌∷◌, ◌++◌, Option, Some, None, Ok, Err, refl, sym, ap, subst, ◌∙◌, arith}
-use Rattle.std.specs.Prelude.{◌&&◌, ◌||◌, if◌then◌else◌, IsTrue}
+use Rattle.std.proofs.Common.{◌≡◌, ◌⊎◌, inl, inr, ℕ, zero, suc, Bool, true, false, List, [], ◌∷◌, ◌++◌, Some, None, Ok, Err, refl, sym, ap, subst, ◌∙◌, arith}
+use Rattle.std.specs.Prelude.{◌||◌, IsTrue}
 use Rattle.std.specs.List.{list_all}
-use Rattle.rsml_syntax.specs.Grammar as put
-use Rattle.rsml_syntax.specs.Layout.{is_the_word}
-use Rattle.rsml_syntax.specs.Tokens.{Tokens}
+use Rattle.rsml_syntax.specs.grammar.Grammar as put
+use Rattle.rsml_syntax.specs.grammar.Layout.{is_the_word}
+use Rattle.rsml_syntax.specs.text.Tokens.{Tokens}
 use Rattle.rsml_syntax.specs.declared.token.Mark.TheVariants as marks
 use Rattle.rsml_syntax.specs.declared.token.Token.{Token}
 use Rattle.rsml_syntax.specs.declared.token.Token.TheVariants as token
-use Rattle.rsml_syntax.specs.declared.token.Word.{Word}
 use Rattle.rsml_syntax.specs.declared.token.Word.TheVariants as words
 use Rattle.rsml_syntax.specs.declared.syntax.Amount.TheVariants as amounts
 use Rattle.rsml_syntax.specs.declared.syntax.Body.{Body, Basic, One, All}
 use Rattle.rsml_syntax.specs.declared.syntax.StateDecl.{StateDecl}
-use Rattle.rsml_parser.specs.Reading.{Stop, Reading, pure, first, many}
+use Rattle.rsml_parser.specs.Parsers.{Stop, Parser, first, many}
 use Rattle.rsml_parser.specs.States.{opens_state, plain_state, array_of_states, child, one_of, all_of, body_of, no_children, children, body}
-use Rattle.rsml_parser.proofs.BodyLists.{kind, good_body, good_state, basic_is_good, all_is_good, one_is_good, tokens_of_all, tokens_of_one}
+use Rattle.rsml_parser.proofs.BodyLists.{good_body, good_state, basic_is_good, all_is_good, one_is_good, tokens_of_all, tokens_of_one}
 use Rattle.rsml_parser.proofs.Forms.{Fit, Shares, Spelled, Form, none_yet, past, same_first, form_bind, form_pure, form_as, form_if}
 use Rattle.rsml_parser.proofs.Leaves.{is_known_word, underscore, form_word, form_mark, form_name}
 use Rattle.rsml_parser.proofs.Lists.{Item, Shrinks, item_word, item_if, item_as, form_many}
@@ -33,19 +32,18 @@ slack_suc : (k : Bool) (n : ℕ) → slack k (suc n) ≡ suc (slack k n)
 slack_suc false n = refl
 slack_suc true n = refl
 
-abbrev pub Children : Reading (List StateDecl) → (Bool → ℕ) → Type 0
+abbrev pub Children : Parser (List StateDecl) → (Bool → ℕ) → Type 0
 Children read most = Form read (λ k cs rest us. (us ≡ put.each put.state cs rest) × IsTrue (list_all (good_state (most k)) cs))
 
-abbrev pub Bodies : Reading Body → (Bool → ℕ) → Type 0
+abbrev pub Bodies : Parser Body → (Bool → ℕ) → Type 0
 Bodies read most = Form read (λ k b rest us. (us ≡ put.body b rest) × IsTrue (good_body (most k) b))
 
 -- A child.
 
-abbrev Child : Reading StateDecl → (Bool → ℕ) → Type 0
+abbrev Child : Parser StateDecl → (Bool → ℕ) → Type 0
 Child read most = Item read (λ k c rest us. (us ≡ put.state c rest) × IsTrue (good_state (most k) c))
 
-item_child : (most : Bool → ℕ) (inner : Reading Body) → Bodies inner most → Child (child inner) most
-unfolding child plain_state array_of_states
+item_child : (most : Bool → ℕ) (inner : Parser Body) → Bodies inner most → Child (child inner) most
 item_child most inner form =
     item_if (item_as (item_word words.Array (λ _. form_bind form_name (λ n. form_bind form_bracketed_amount (λ s. form_bind form (λ b. form_pure (record { name = n; size = Some s; body = b }))))))
     (λ k x rest us s. let z = s.later.later in let b = z.later in rw (s.before, s.later.before, z.before, b.before.0, b.later.1, b.later.0) (refl, b.before.1)))
@@ -54,8 +52,7 @@ item_child most inner form =
 
 -- A body.
 
-form_body_of : (most : Bool → ℕ) (inner : Reading (List StateDecl)) → Children inner most → Bodies (body_of inner) (λ k. suc (most k))
-unfolding body_of one_of all_of
+form_body_of : (most : Bool → ℕ) (inner : Parser (List StateDecl)) → Children inner most → Bodies (body_of inner) (λ k. suc (most k))
 form_body_of most inner form =
     form_if (form_as (mark_for marks.Semicolon Basic).form (λ k b rest us s. rw (s.0, s.1) (refl, basic_is_good (most k))))
     (form_if (form_as (form_bind (form_word words.One) (λ _. form_bind (form_mark marks.OpenBrace) (λ _. form_bind (form_word words.Default) (λ _. form_bind form_name (λ n. form_bind (form_mark marks.Semicolon) (λ _.
@@ -100,7 +97,6 @@ least_state t a h = elim (opened t h) [
 ]
 
 form_no_children : Children no_children (λ k. slack k 0)
-unfolding no_children
 form_no_children = record {
   takes = λ k ts x rest h. let e = went ts x rest h in subst (λ (cs : List StateDecl). (ts ≡ put.each put.state cs rest) × IsTrue (list_all (good_state (slack k 0)) cs)) e.0 (e.1, refl);
   lifts = λ k ts x rest h stop more s. let e = went ts x rest h in
@@ -143,7 +139,7 @@ form_no_children = record {
 
 -- All children.
 
-form_list : (most : Bool → ℕ) (read : Reading StateDecl) → Child read most → Children (many (first opens_state) read) most
+form_list : (most : Bool → ℕ) (read : Parser StateDecl) → Child read most → Children (many (first opens_state) read) most
 form_list most read item = form_as (form_many opens_state item) (λ k cs rest us s. each_good put.state (good_state (most k)) cs rest us s)
 
 pub form_children : (room : ℕ) → Children (children room) (λ k. slack k room)
@@ -154,7 +150,6 @@ form_children (suc room) =
     (λ k cs rest us s. (s.0, subst (λ n. IsTrue (list_all (good_state n) cs)) (sym (slack_suc k room)) s.1))
 
 pub form_body : (room : ℕ) → Bodies (body room) (λ k. suc (slack k room))
-unfolding body
 form_body room = form_body_of (λ k. slack k room) (children room) (form_children room)
 
 pub shrinks_child : (room : ℕ) → Shrinks (child (body_of (children room)))

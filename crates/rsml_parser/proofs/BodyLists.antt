@@ -1,13 +1,13 @@
 -- A body by the list of its children: its tokens, its items and how deep it nests.
-use Rattle.std.proofs.Common.{◌≡◌, ◌⊎◌, inl, inr, ℕ, zero, suc, ◌<◌, ◌≤◌, Bool, true, false, List, [], ◌∷◌, refl, sym, ap, subst, ◌∙◌, arith}
+use Rattle.std.proofs.Common.{◌≡◌, ◌⊎◌, inl, inr, ℕ, suc, ◌≤◌, Bool, List, [], ◌∷◌, refl, sym, ap, subst, ◌∙◌, arith}
 use Rattle.std.specs.Prelude.{◌&&◌, nat_le, max, IsTrue}
 use Rattle.std.specs.List.{list_all}
 use Rattle.std.proofs.lemmas.Bool.{leb-true, le-leb}
 use mathlib.Core.Former.{Count}
-use Rattle.rsml_syntax.specs.Grammar as put
-use Rattle.rsml_syntax.specs.Names.{Name}
-use Rattle.rsml_syntax.specs.Tokens.{Tokens}
-use Rattle.rsml_syntax.specs.WellFormed.{bus_has_items, transition_has_items, body_has_items, row_of_children_has_items, depth_of, children_depth}
+use Rattle.rsml_syntax.specs.grammar.Grammar as put
+use Rattle.rsml_syntax.specs.text.Names.{Name}
+use Rattle.rsml_syntax.specs.text.Tokens.{Tokens}
+use Rattle.rsml_syntax.specs.grammar.WellFormed.{bus_has_items, transition_has_items, body_has_items, row_of_children_has_items, depth_of, children_depth}
 use Rattle.rsml_syntax.specs.declared.token.Mark.TheVariants as marks
 use Rattle.rsml_syntax.specs.declared.token.Word.TheVariants as words
 use Rattle.rsml_syntax.specs.declared.syntax.Body.{Body, Basic, One, One', All, All', Row_of-StateDecl, end_of-StateDecl, more_of-StateDecl, items-the_row-StateDecl, items_hidden-the_row-StateDecl-0, roll-Body, out-Body, roll-out-Body}
@@ -39,7 +39,7 @@ has_its_items c = body_has_items c.body
 
 row_tokens : (n : _) (row : Row_of-StateDecl n) (rest : Tokens) → put.children_row row rest ≡ put.each put.state (items-the_row-StateDecl n row) rest
 row_tokens n end_of-StateDecl rest = refl
-row_tokens n (more_of-StateDecl a z b others) rest = ap (λ r. put.word (put.opening z) (put.name a (put.size z (put.body b r)))) (row_tokens _ others rest)
+row_tokens n (more_of-StateDecl a z b others) rest = ap (λ r. put.word (put.state_word z) (put.name a (put.size z (put.body b r)))) (row_tokens _ others rest)
 
 row_items : (n : _) (row : Row_of-StateDecl n) → row_of_children_has_items row ≡ list_all has_its_items (items-the_row-StateDecl n row)
 row_items n end_of-StateDecl = refl

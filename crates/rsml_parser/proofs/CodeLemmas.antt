@@ -1,17 +1,17 @@
 -- What the code rests on besides the definitions of reading.
-use Rattle.std.proofs.Common.{◌≡◌, ℕ, zero, suc, ◌-◌, ◌<◌, ◌≤◌, Bool, List, ◌++◌, length, length-append, Err, ap, arith}
+use Rattle.std.proofs.Common.{◌≡◌, ℕ, zero, suc, ◌-◌, ◌<◌, ◌≤◌, Bool, List, length, length-append, Err, ap, arith}
 use Rattle.std.proofs.lemmas.List.{length-map}
-use Rattle.rsml_syntax.specs.Lexing.{bare}
-use Rattle.rsml_syntax.specs.Tokens.{Tokens}
+use Rattle.rsml_syntax.specs.text.Lexing.{bare}
+use Rattle.rsml_syntax.specs.text.Tokens.{Tokens}
 use Rattle.rsml_syntax.specs.declared.token.Placed.{Placed}
-use Rattle.rsml_parser.specs.Reading.{first, many}
+use Rattle.rsml_parser.specs.Parsers.{first, many}
 use Rattle.rsml_parser.specs.States.{opens_state, child, body_of, children, body, whole}
 use Rattle.rsml_parser.proofs.Forms.{left_at_fault}
 use Rattle.rsml_parser.proofs.SpecificationForms.{form_whole}
 
 -- where there is room for a state, there is room for one less in it
 pub with_room : (room : ℕ) (ts : Tokens) → 0 < room → children room ts ≡ many (first opens_state) (child (body (room - 1))) ts
-unfolding children body
+unfolding children
 with_room zero ts h = absurd (omega (arith, h))
 with_room (suc room) ts h = ap (λ n. many (first opens_state) (child (body_of (children n))) ts) (let same : room ≡ suc room - 1 = omega arith in same)
 

@@ -1,9 +1,8 @@
 -- More room for nested states: what is read stays, and so does a fault of syntax.
-use Rattle.std.proofs.Common.{◌≡◌, ◌⊎◌, inl, inr, ℕ, zero, suc, ◌<◌, ◌≤◌, Bool, true, false, List, [], ◌∷◌, length, Option, Some, None, Ok, Err, refl, sym, ap, subst, ◌∙◌, arith}
-use Rattle.std.specs.Prelude.{if◌then◌else◌}
+use Rattle.std.proofs.Common.{◌≡◌, inl, inr, ℕ, zero, suc, ◌≤◌, Bool, true, false, List, [], ◌∷◌, length, Some, None, Ok, Err, sym, subst, ◌∙◌, arith}
 use Rattle.std.proofs.Math.Nat.{le-suc_iff}
-use Rattle.rsml_syntax.specs.Layout.{is_the_word}
-use Rattle.rsml_syntax.specs.Tokens.{Tokens}
+use Rattle.rsml_syntax.specs.grammar.Layout.{is_the_word}
+use Rattle.rsml_syntax.specs.text.Tokens.{Tokens}
 use Rattle.rsml_syntax.specs.declared.token.Mark.TheVariants as marks
 use Rattle.rsml_syntax.specs.declared.token.Token.{Token}
 use Rattle.rsml_syntax.specs.declared.token.Word.TheVariants as words
@@ -11,19 +10,19 @@ use Rattle.rsml_syntax.specs.declared.syntax.Body.{Body, Basic, One, All}
 use Rattle.rsml_syntax.specs.declared.syntax.StateDecl.{StateDecl}
 use Rattle.rsml_parser.specs.Declarations.{declaration}
 use Rattle.rsml_parser.specs.Mentions.{bracketed_amount}
-use Rattle.rsml_parser.specs.Reading.{Reading, ◌>>=◌, ◌>>◌, and_then, pure, choose, first, word, mark, name, end, many_from, many, until}
+use Rattle.rsml_parser.specs.Parsers.{Parser, ◌>>=◌, ◌>>◌, pure, choose, first, word, mark, name, end, many_from, many, until}
 use Rattle.rsml_parser.specs.States.{bus, transition, opens_state, plain_state, array_of_states, child, one_of, all_of, body_of, no_children, children, body, opens_declaration, specification, whole}
 use Rattle.rsml_parser.proofs.Outcomes.{same_err, bind_ok, bind_err, then_ok, then_err, chosen, takes_first, takes_second}
 
 -- what q reads is what p reads, but where p has too little room
-pub record Deeper {A : Type 0} (p q : Reading A) : Type 0 where
+pub record Deeper {A : Type 0} (p q : Parser A) : Type 0 where
   pub ok : (ts : Tokens) (y : A × Tokens) → p ts ≡ Ok y → q ts ≡ Ok y
   pub err : (ts stop : Tokens) → p ts ≡ Err (false, stop) → q ts ≡ Err (false, stop)
 
-same : {A : Type 0} (p : Reading A) → Deeper p p
+same : {A : Type 0} (p : Parser A) → Deeper p p
 same p = record { ok = λ ts y h. h; err = λ ts stop h. h }
 
-deeper_bind : {A B : Type 0} {p q : Reading A} {f g : A → Reading B} → Deeper p q → ((x : A) → Deeper (f x) (g x)) → Deeper (p >>= f) (q >>= g)
+deeper_bind : {A B : Type 0} {p q : Parser A} {f g : A → Parser B} → Deeper p q → ((x : A) → Deeper (f x) (g x)) → Deeper (p >>= f) (q >>= g)
 deeper_bind {A} {B} {p} {q} {f} {g} one two = record {
   ok = λ ts y h. let e = bind_ok (p ts) f y h in then_ok (q ts) g e.0.0 e.0.1 (one.ok ts e.0 e.1) ∙ (two e.0.0).ok e.0.1 y e.2;
   err = λ ts stop h. elim (bind_err (p ts) f (false, stop) h) [
@@ -33,10 +32,10 @@ deeper_bind {A} {B} {p} {q} {f} {g} one two = record {
 }
 
 -- the first part is the same
-deeper_later : {A B : Type 0} {f g : A → Reading B} (p : Reading A) → ((x : A) → Deeper (f x) (g x)) → Deeper (p >>= f) (p >>= g)
+deeper_later : {A B : Type 0} {f g : A → Parser B} (p : Parser A) → ((x : A) → Deeper (f x) (g x)) → Deeper (p >>= f) (p >>= g)
 deeper_later p two = deeper_bind (same p) two
 
-deeper_if : {A : Type 0} {test : Token → Bool} {p q r s : Reading A} → Deeper p r → Deeper q s → Deeper (choose (first test) p q) (choose (first test) r s)
+deeper_if : {A : Type 0} {test : Token → Bool} {p q r s : Parser A} → Deeper p r → Deeper q s → Deeper (choose (first test) p q) (choose (first test) r s)
 deeper_if {A} {test} {p} {q} {r} {s} one two = record {
   ok = λ ts y h. elim (chosen (first test ts) (p ts) (q ts) (Ok y) h) [
     | inl e ↦ takes_first (first test ts) (r ts) (s ts) e.0 ∙ one.ok ts y e.1
@@ -48,31 +47,29 @@ deeper_if {A} {test} {p} {q} {r} {s} one two = record {
   ];
 }
 
-deeper_from : {A : Type 0} {p q : Reading A} (test : Token → Bool) → Deeper p q → (n : ℕ) → Deeper (many_from (first test) p n) (many_from (first test) q n)
+deeper_from : {A : Type 0} {p q : Parser A} (test : Token → Bool) → Deeper p q → (n : ℕ) → Deeper (many_from (first test) p n) (many_from (first test) q n)
 unfolding many_from
 deeper_from test d zero = same (pure [])
 deeper_from test d (suc n) = deeper_if (deeper_bind d (λ x. deeper_bind (deeper_from test d n) (λ xs. same (pure (x ∷ xs))))) (same (pure []))
 
-deeper_many : {A : Type 0} {p q : Reading A} (test : Token → Bool) → Deeper p q → Deeper (many (first test) p) (many (first test) q)
+deeper_many : {A : Type 0} {p q : Parser A} (test : Token → Bool) → Deeper p q → Deeper (many (first test) p) (many (first test) q)
 unfolding many
 deeper_many test d = record { ok = λ ts. (deeper_from test d (length ts)).ok ts; err = λ ts. (deeper_from test d (length ts)).err ts }
 
-deeper_child : {p q : Reading Body} → Deeper p q → Deeper (child p) (child q)
-unfolding child array_of_states plain_state
+deeper_child : {p q : Parser Body} → Deeper p q → Deeper (child p) (child q)
 deeper_child d = deeper_if
     (deeper_later (word words.Array) (λ _. deeper_later name (λ n. deeper_later bracketed_amount (λ s. deeper_bind d (λ b. same (pure (record { name = n; size = Some s; body = b })))))))
     (deeper_later (word words.State) (λ _. deeper_later name (λ n. deeper_bind d (λ b. same (pure (record { name = n; size = None; body = b }))))))
 
-deeper_body_of : {p q : Reading (List StateDecl)} → Deeper p q → Deeper (body_of p) (body_of q)
-unfolding body_of one_of all_of
+deeper_body_of : {p q : Parser (List StateDecl)} → Deeper p q → Deeper (body_of p) (body_of q)
 deeper_body_of d = deeper_if (same (mark marks.Semicolon >> pure Basic)) (deeper_if
     (deeper_later (word words.One) (λ _. deeper_later (mark marks.OpenBrace) (λ _. deeper_later (word words.Default) (λ _. deeper_later name (λ n. deeper_later (mark marks.Semicolon) (λ _. deeper_bind d (λ cs.
     same (many (first (is_the_word words.Bus)) bus >>= (λ bs. until marks.CloseBrace transition >>= (λ ts. pure (One n cs bs ts)))))))))))
     (deeper_later (word words.All) (λ _. deeper_later (mark marks.OpenBrace) (λ _. deeper_bind d (λ cs. same (mark marks.CloseBrace >> pure (All cs)))))))
 
 -- where no state opens, none is read
-deeper_none : (item : Reading StateDecl) → Deeper no_children (many (first opens_state) item)
-unfolding no_children many many_from
+deeper_none : (item : Parser StateDecl) → Deeper no_children (many (first opens_state) item)
+unfolding many many_from
 deeper_none item = record { ok = ok; err = err }
   where
     ok : (ts : Tokens) (y : List StateDecl × Tokens) → no_children ts ≡ Ok y → many (first opens_state) item ts ≡ Ok y
@@ -94,7 +91,7 @@ deeper_children zero = deeper_none (child (body_of no_children))
 deeper_children (suc room) = deeper_many opens_state (deeper_child (deeper_body_of (deeper_children room)))
 
 deeper_whole : (room : ℕ) → Deeper (whole room) (whole (suc room))
-unfolding whole specification body
+unfolding whole
 deeper_whole room = deeper_bind
     (deeper_later (word words.Specification) (λ _. deeper_later name (λ n. deeper_later (mark marks.Semicolon) (λ _. deeper_later (many (first opens_declaration) declaration) (λ ds. deeper_later (word words.State) (λ _. deeper_later name (λ top.
     deeper_bind (deeper_body_of (deeper_children room)) (λ b. same (pure (record { name = n; decls = ds; top = top; body = b })))))))))) (λ s. same (end >> pure s))

@@ -1,11 +1,10 @@
 -- What reading has to do with what is spelled: the laws of a reading, closed under the ways to put readings together.
-use Rattle.std.proofs.Common.{◌≡◌, ◌⊎◌, inl, inr, Bool, true, false, List, [], ◌∷◌, ◌++◌, Ok, Err, refl, sym, ap, ◌∙◌, subst, append_assoc}
-use Rattle.std.specs.Prelude.{if◌then◌else◌}
-use Rattle.rsml_syntax.specs.Tokens.{Tokens, AreTokens}
+use Rattle.std.proofs.Common.{◌≡◌, inl, inr, Bool, true, false, [], ◌∷◌, ◌++◌, Ok, Err, refl, sym, ap, ◌∙◌, subst, append_assoc}
+use Rattle.rsml_syntax.specs.text.Tokens.{Tokens, AreTokens}
 use Rattle.rsml_syntax.specs.declared.edition.Edition.TheVariants as editions
 use Rattle.rsml_syntax.specs.declared.token.Token.{Token}
-use Rattle.rsml_parser.specs.Reading.{Stop, Outcome, Reading, ◌>>=◌, and_then, pure, choose, first}
-use Rattle.rsml_parser.proofs.Outcomes.{same_ok, same_err, bind_ok, bind_err, then_ok, then_err, chosen, takes_first, takes_second, cancel}
+use Rattle.rsml_parser.specs.Parsers.{Stop, Parser, ◌>>=◌, pure, choose, first}
+use Rattle.rsml_parser.proofs.Outcomes.{same_ok, bind_ok, bind_err, then_ok, then_err, chosen, takes_first, takes_second, cancel}
 
 abbrev pub Fit : Tokens → Type 0
 Fit ts = AreTokens editions.Second ts
@@ -46,7 +45,7 @@ past true s = beyond s.0 s.1
 -- What is read is spelled so; what follows may be put in place of what is left; what comes before a fault goes on in
 -- some way; a state too many is opened by a token; something is spelled before any rest; and neither what is read nor
 -- the fault depends on what comes later.
-pub record Form {A : Type 0} (read : Reading A) (P : Bool → A → Tokens → Tokens → Type 0) : Type 0 where
+pub record Form {A : Type 0} (read : Parser A) (P : Bool → A → Tokens → Tokens → Type 0) : Type 0 where
   pub takes : (k : Bool) (ts : Tokens) (x : A) (rest : Tokens) → read ts ≡ Ok (x, rest) → P k x rest ts
   pub lifts : (k : Bool) (ts : Tokens) (x : A) (rest : Tokens) → read ts ≡ Ok (x, rest) → (stop more : Tokens) → Shares rest stop more → Spelled (P k) x more ts stop
   pub begins : (k : Bool) (ts : Tokens) (s : Stop) → read ts ≡ Err s → (x : A) × ((rest : Tokens) → Fit rest → Spelled (P k) x rest ts (past k s))
@@ -62,7 +61,7 @@ none_yet ts more fit = record { front = []; tail = more; have = refl; given = re
 pub one_more : (t : Token) (ts stop us : Tokens) → Shares ts stop us → Shares (t ∷ ts) stop (t ∷ us)
 one_more t ts stop us s = record { front = t ∷ s.front; tail = s.tail; have = ap (λ l. t ∷ l) s.have; given = ap (λ l. t ∷ l) s.given; fit = s.fit }
 
-module _ {A : Type 0} {read : Reading A} {P : Bool → A → Tokens → Tokens → Type 0} (form : Form read P) where
+module _ {A : Type 0} {read : Parser A} {P : Bool → A → Tokens → Tokens → Type 0} (form : Form read P) where
   -- what is left is the last part
   pub left : (ts : Tokens) (x : A) (rest : Tokens) → read ts ≡ Ok (x, rest) → (front : Tokens) × (ts ≡ front ++ rest)
   left ts x rest h = let s = form.lifts false ts x rest h rest [] (record { front = []; tail = []; have = refl; given = refl; fit = refl }) in (s.shares.front, s.shares.have)
@@ -79,7 +78,7 @@ pub record Then {A B : Type 0} (P : A → Tokens → Tokens → Type 0) (Q : A �
   pub before : P got mid us
   pub later : Q got y rest mid
 
-pub form_bind : {A B : Type 0} {p : Reading A} {P : Bool → A → Tokens → Tokens → Type 0} {f : A → Reading B} {Q : Bool → A → B → Tokens → Tokens → Type 0} →
+pub form_bind : {A B : Type 0} {p : Parser A} {P : Bool → A → Tokens → Tokens → Type 0} {f : A → Parser B} {Q : Bool → A → B → Tokens → Tokens → Type 0} →
     Form p P → ((x : A) → Form (f x) (λ k. Q k x)) → Form (p >>= f) (λ k. Then (P k) (Q k))
 form_bind {A} {B} {p} {P} {f} {Q} one two = record {
   takes = λ k ts y rest h. let e = bind_ok (p ts) f (y, rest) h in
@@ -136,7 +135,7 @@ form_pure {A} x = record {
 
 -- Said in another way.
 
-pub form_as : {A : Type 0} {read : Reading A} {P Q : Bool → A → Tokens → Tokens → Type 0} → Form read P →
+pub form_as : {A : Type 0} {read : Parser A} {P Q : Bool → A → Tokens → Tokens → Type 0} → Form read P →
     ((k : Bool) (x : A) (rest us : Tokens) → P k x rest us → Q k x rest us) → Form read Q
 form_as form say = record {
   takes = λ k ts x rest h. say k x rest ts (form.takes k ts x rest h);
@@ -151,7 +150,7 @@ form_as form say = record {
 
 -- Read in another way.
 
-pub form_same : {A : Type 0} {q : Reading A} {P : Bool → A → Tokens → Tokens → Type 0} (p : Reading A) → ((ts : Tokens) → p ts ≡ q ts) → Form q P → Form p P
+pub form_same : {A : Type 0} {q : Parser A} {P : Bool → A → Tokens → Tokens → Type 0} (p : Parser A) → ((ts : Tokens) → p ts ≡ q ts) → Form q P → Form p P
 form_same p e form = record {
   takes = λ k ts x rest h. form.takes k ts x rest (sym (e ts) ∙ h);
   lifts = λ k ts x rest h. form.lifts k ts x rest (sym (e ts) ∙ h);
@@ -169,7 +168,7 @@ pub same_first : (test : Token → Bool) (front : Tokens) (t : Token) (a b : Tok
 same_first test [] t a b = refl
 same_first test (u ∷ us) t a b = refl
 
-pub form_if : {A : Type 0} {test : Token → Bool} {p q : Reading A} {P : Bool → A → Tokens → Tokens → Type 0} → Form p P → Form q P → Form (choose (first test) p q) P
+pub form_if : {A : Type 0} {test : Token → Bool} {p q : Parser A} {P : Bool → A → Tokens → Tokens → Type 0} → Form p P → Form q P → Form (choose (first test) p q) P
 form_if {A} {test} {p} {q} {P} one two = record {
   takes = λ k ts x rest h. elim (chosen (first test ts) (p ts) (q ts) (Ok (x, rest)) h) [ inl e ↦ one.takes k ts x rest e.1 | inr e ↦ two.takes k ts x rest e.1 ];
   lifts = λ k ts x rest h. elim (chosen (first test ts) (p ts) (q ts) (Ok (x, rest)) h) [ inl e ↦ one.lifts k ts x rest e.1 | inr e ↦ two.lifts k ts x rest e.1 ];

@@ -1,14 +1,13 @@
 -- The laws of reading one token, and of the end.
-use Rattle.std.proofs.Common.{◌≡◌, ◌⊎◌, inl, inr, length-append, ℕ, ◌<◌, ◌≤◌, Bool, true, false, List, [], ◌∷◌, ◌++◌, length, Option, Some, None, Ok, Err, refl, sym, ap, ◌∙◌, arith, rules, subst}
+use Rattle.std.proofs.Common.{◌≡◌, inl, inr, length-append, ℕ, Bool, true, false, List, [], ◌∷◌, ◌++◌, length, Option, Some, None, Ok, Err, refl, sym, ap, ◌∙◌, arith, rules, subst}
 use Rattle.std.specs.Prelude.{if◌then◌else◌, IsFalse}
 use Rattle.std.proofs.Math.Bool.{or-true}
 use Rattle.std.proofs.lemmas.Str.{encode_ascii}
 use denote.Enum.Bare.{same_true}
-use Rattle.rsml_syntax.specs.Grammar as put
-use Rattle.rsml_syntax.specs.Layout.{is_mark, is_the_word}
-use Rattle.rsml_syntax.specs.Marks.{same_mark}
-use Rattle.rsml_syntax.specs.Tokens.{Tokens, IsToken, is_word}
-use Rattle.rsml_syntax.specs.Words.{same_word, spelling}
+use Rattle.rsml_syntax.specs.grammar.Grammar as put
+use Rattle.rsml_syntax.specs.grammar.Layout.{is_mark, is_the_word}
+use Rattle.rsml_syntax.specs.text.Tokens.{Tokens, IsToken, is_word}
+use Rattle.rsml_syntax.specs.text.Words.{spelling}
 use Rattle.rsml_syntax.specs.contracts.token.Mark as M
 use Rattle.rsml_syntax.specs.contracts.token.Word as W
 use Rattle.rsml_syntax.specs.declared.edition.Edition.TheVariants as editions
@@ -16,20 +15,20 @@ use Rattle.rsml_syntax.specs.declared.token.Mark.{Mark}
 use Rattle.rsml_syntax.specs.declared.token.Token.{Token}
 use Rattle.rsml_syntax.specs.declared.token.Token.TheVariants as token
 use Rattle.rsml_syntax.specs.declared.token.Word.{Word}
-use Rattle.rsml_parser.specs.Reading.{Stop, Outcome, Reading, ◌>>=◌, choose, first, found, of_first, skip, word, mark, name, number, name_of, number_of, end}
-use Rattle.rsml_parser.proofs.Forms.{Fit, Shares, Form, left, none_yet, one_more, past, form_same}
-use Rattle.rsml_parser.proofs.Outcomes.{same_ok, same_err, bind_ok, chosen, cancel}
+use Rattle.rsml_parser.specs.Parsers.{Stop, Outcome, Parser, first, found, of_first, skip, word, mark, name, number, seen_name, seen_number}
+use Rattle.rsml_parser.proofs.Forms.{Shares, Form, none_yet, one_more, past, form_same}
+use Rattle.rsml_parser.proofs.Outcomes.{same_ok, same_err, chosen, cancel}
 
 -- Read by a look at the first token.
 
-abbrev pub looked : {A : Type 0} → (Token → Option A) → Reading A
+abbrev pub looked : {A : Type 0} → (Token → Option A) → Parser A
 looked see ts = found (of_first see ts) ts
 
 found_ok : {A : Type 0} (o : Option A) (ts : Tokens) (x : A) (r : Tokens) → found o ts ≡ Ok (x, r) → (o ≡ Some x) × (skip ts ≡ r)
 found_ok (Some y) ts x r h = let e = same_ok y x (skip ts) r h in (ap (λ z. Some z) e.0, e.1)
 found_ok None ts x r h = absurd cc
 
-found_err : {A : Type 0} (o : Option A) (ts : Tokens) (k : Bool) (r : Tokens) → found o ts ≡ Err (k, r) → (o ≡ None) × (false ≡ k) × (ts ≡ r)
+pub found_err : {A : Type 0} (o : Option A) (ts : Tokens) (k : Bool) (r : Tokens) → found o ts ≡ Err (k, r) → (o ≡ None) × (false ≡ k) × (ts ≡ r)
 found_err (Some y) ts k r h = absurd cc
 found_err None ts k r h = let e = same_err false k ts r h in (refl, e.0, e.1)
 
@@ -92,7 +91,7 @@ looked_is test (t ∷ ts) = way (test t)
     way true = refl
     way false = refl
 
-form_known : (read : Reading (Unit {0})) (test : Token → Bool) (known : Token) → ((ts : Tokens) → read ts ≡ (if first test ts then Ok (tt, skip ts) else Err (false, ts))) → IsToken editions.Second known →
+form_known : (read : Parser (Unit {0})) (test : Token → Bool) (known : Token) → ((ts : Tokens) → read ts ≡ (if first test ts then Ok (tt, skip ts) else Err (false, ts))) → IsToken editions.Second known →
     ((t : Token) → test t ≡ true → t ≡ known) → Form read (λ _ x rest us. us ≡ known ∷ rest)
 form_known read test known is fits tells = form_same read (λ ts. is ts ∙ looked_is test ts) (form_looked (seen test) (λ _. known) tt fits sees)
   where
@@ -130,9 +129,9 @@ underscore = (95 ∷ [], refl, sym (ap (λ (l : List ℕ). l ++ []) (encode_asci
 
 pub form_name : Form name (λ _ n rest us. us ≡ put.name n rest)
 unfolding name
-form_name = form_looked name_of (λ n. token.Name n) (95 ∷ []) underscore sees
+form_name = form_looked seen_name (λ n. token.Name n) (95 ∷ []) underscore sees
   where
-    sees : (t : Token) (n : List ℕ) → name_of t ≡ Some n → t ≡ token.Name n
+    sees : (t : Token) (n : List ℕ) → seen_name t ≡ Some n → t ≡ token.Name n
     sees (token.Name m) n h = ap (λ (k : List ℕ). token.Name k) (let e : m ≡ n = cc in e)
     sees (token.Word w) n h = absurd cc
     sees (token.Number w) n h = absurd cc
@@ -140,9 +139,9 @@ form_name = form_looked name_of (λ n. token.Name n) (95 ∷ []) underscore sees
 
 pub form_number : Form number (λ _ n rest us. us ≡ put.number n rest)
 unfolding number
-form_number = form_looked number_of (λ n. token.Number n) 0 (omega arith) sees
+form_number = form_looked seen_number (λ n. token.Number n) 0 (omega arith) sees
   where
-    sees : (t : Token) (n : ℕ) → number_of t ≡ Some n → t ≡ token.Number n
+    sees : (t : Token) (n : ℕ) → seen_number t ≡ Some n → t ≡ token.Number n
     sees (token.Number m) n h = ap (λ (k : ℕ). token.Number k) (let e : m ≡ n = cc in e)
     sees (token.Word w) n h = absurd cc
     sees (token.Name w) n h = absurd cc

@@ -20,4 +20,7 @@ pub mod SpecificationForms
 pub mod PlaceLemmas
 pub mod AnswerLemmas
 pub mod CodeLemmas
-pub mod ReadingLemmas
+pub mod SpecificationLemmas
+pub mod Braces
+pub mod OneAnswer
+pub mod DeepLemmas

@@ -1,13 +1,13 @@
 -- A loop that reads items while one begins, beside `many_from`.
 use Rattle.std.proofs.Common.{◌≡◌, ℕ, zero, suc, ◌+◌, ◌-◌, ◌<◌, ◌≤◌, Bool, true, false, List, [], ◌∷◌, ◌++◌, length, Ok, Err, append-nil, refl, sym, ap, ◌∙◌, arith, append_assoc}
-use Rattle.rsml_syntax.specs.Tokens.{Tokens}
+use Rattle.rsml_syntax.specs.text.Tokens.{Tokens}
 use Rattle.rsml_syntax.specs.declared.token.Mark.{Mark}
 use Rattle.rsml_syntax.specs.declared.token.Token.{Token}
 use Rattle.rsml_parser.specs.declared.reader.Fault.{Fault}
 use Rattle.rsml_parser.specs.declared.reader.Fault.TheVariants as faults
-use Rattle.rsml_parser.specs.Reading.{Fails, Stop, Outcome, Reading, ◌>>=◌, ◌>>◌, and_then, pure, first, sees_mark, skip, mark, many_from, many, and_more, separated}
+use Rattle.rsml_parser.specs.Parsers.{Fails, Stop, Outcome, Parser, ◌>>=◌, ◌>>◌, and_then, pure, first, sees_mark, skip, mark, many_from, many, and_more, separated}
 use Rattle.rsml_parser.proofs.Outcomes.{takes_first, takes_second, then_ok, then_err}
-use Rattle.rsml_syntax.specs.Layout.{is_mark}
+use Rattle.rsml_syntax.specs.grammar.Layout.{is_mark}
 
 -- a fault is passed on
 pub passed_on : {A B : Type 0} (r : Outcome A) (s : Outcome B) (e : Fault) (left : Tokens) → ((stop : Stop) → r ≡ Err stop → s ≡ Err stop) → Fails r e left → Fails s e left
@@ -16,13 +16,13 @@ passed_on r s faults.Syntax left f h = f (false, left) h
 passed_on r s faults.TooDeep left f h = f (true, left) h
 
 -- the mark that is seen is read
-pub mark_seen : {A : Type 0} (m : Mark) (item : Reading A) (ts : Tokens) → sees_mark m ts ≡ true → (mark m >> item) ts ≡ item (skip ts)
+pub mark_seen : {A : Type 0} (m : Mark) (item : Parser A) (ts : Tokens) → sees_mark m ts ≡ true → (mark m >> item) ts ≡ item (skip ts)
 unfolding mark and_then
 mark_seen m item ts b = then_ok (mark m ts) (λ _. item) tt (skip ts) (takes_first (sees_mark m ts) _ _ b)
 
-module _ {A : Type 0} (test : Token → Bool) (item : Reading A) where
+module _ {A : Type 0} (test : Token → Bool) (item : Parser A) where
   -- some items are found, and the others are still to be read
-  unfoldable pub going : ℕ → List A → Reading (List A)
+  unfoldable pub going : ℕ → List A → Parser (List A)
   going n found = many_from (first test) item n >>= (λ more. pure (found ++ more))
 
   pub starts : (n : ℕ) (found : List A) (ts : Tokens) → n ≡ length ts → going (n - 0) found ts ≡ and_more (first test) item found ts
@@ -67,7 +67,7 @@ module _ {A : Type 0} (test : Token → Bool) (item : Reading A) where
   unfolding going and_then
   turn n at found ts after x y lt b e h =
       let k : n - at ≡ suc (n - (at + 1)) = omega arith in
-      let more : A → Reading (List A) = λ x. many_from (first test) item (n - (at + 1)) >>= (λ xs. pure (x ∷ xs)) in
+      let more : A → Parser (List A) = λ x. many_from (first test) item (n - (at + 1)) >>= (λ xs. pure (x ∷ xs)) in
       sym (ap (λ k. going k found ts) k ∙ ap (λ o. and_then o (λ more. pure (found ++ more))) (one (n - (at + 1)) ts b ∙ then_ok (item ts) more x after e)
       ∙ joins (many_from (first test) item (n - (at + 1)) after)) ∙ h
     where
@@ -81,16 +81,16 @@ module _ {A : Type 0} (test : Token → Bool) (item : Reading A) where
   unfolding going
   failed n at found ts y lt b s e h =
       let k : n - at ≡ suc (n - (at + 1)) = omega arith in
-      let more : A → Reading (List A) = λ x. many_from (first test) item (n - (at + 1)) >>= (λ xs. pure (x ∷ xs)) in
+      let more : A → Parser (List A) = λ x. many_from (first test) item (n - (at + 1)) >>= (λ xs. pure (x ∷ xs)) in
       sym h ∙ ap (λ k. going k found ts) k
       ∙ then_err (many_from (first test) item (suc (n - (at + 1))) ts) (λ more. pure (found ++ more)) s (one (n - (at + 1)) ts b ∙ then_err (item ts) more s e)
 
 -- the first of some items was read
-pub starts_after : {A : Type 0} (m : Mark) (item : Reading A) (n : ℕ) (found : List A) (x : A) (ts after : Tokens) → n ≡ length after → found ≡ x ∷ [] →
+pub starts_after : {A : Type 0} (m : Mark) (item : Parser A) (n : ℕ) (found : List A) (x : A) (ts after : Tokens) → n ≡ length after → found ≡ x ∷ [] →
     item ts ≡ Ok (x, after) → going (is_mark m) (mark m >> item) (n - 0) found after ≡ separated m item ts
-unfolding going separated many
+unfolding going many
 starts_after {A} m item n found x ts after e f h =
     let k : n - 0 ≡ length after = omega (arith, e) in
-    let rest : A → Reading (List A) = λ x. many (sees_mark m) (mark m >> item) >>= (λ xs. pure (x ∷ xs)) in
+    let rest : A → Parser (List A) = λ x. many (sees_mark m) (mark m >> item) >>= (λ xs. pure (x ∷ xs)) in
     ap (λ k. going (is_mark m) (mark m >> item) k found after) k ∙ ap (λ l. going (is_mark m) (mark m >> item) (length after) l after) f
     ∙ sym (then_ok (item ts) rest x after h)

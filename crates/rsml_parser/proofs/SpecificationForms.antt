@@ -1,21 +1,19 @@
 -- The laws of reading specifications.
-use Rattle.std.proofs.Common.{◌≡◌, ◌⊎◌, inl, inr, ℕ, zero, suc, ◌≤◌, Bool, true, false, List, [], ◌∷◌, ◌++◌, Ok, Err, refl, sym, ap, subst, ◌∙◌, arith}
+use Rattle.std.proofs.Common.{◌≡◌, ℕ, suc, Bool, true, List, [], ◌∷◌, Ok, refl, sym, ◌∙◌}
 use Rattle.std.specs.Prelude.{◌&&◌, IsTrue, ⊤}
 use Rattle.std.specs.List.{list_all}
-use Rattle.rsml_syntax.specs.Grammar as put
-use Rattle.rsml_syntax.specs.Grammar.{tokens_of}
-use Rattle.rsml_syntax.specs.Layout.{is_the_word}
-use Rattle.rsml_syntax.specs.Tokens.{Tokens}
-use Rattle.rsml_syntax.specs.WellFormed.{declaration_has_items}
+use Rattle.rsml_syntax.specs.grammar.Grammar as put
+use Rattle.rsml_syntax.specs.grammar.Grammar.{tokens_of}
+use Rattle.rsml_syntax.specs.text.Tokens.{Tokens}
+use Rattle.rsml_syntax.specs.grammar.WellFormed.{declaration_has_items}
 use Rattle.rsml_syntax.specs.declared.token.Mark.TheVariants as marks
-use Rattle.rsml_syntax.specs.declared.token.Token.{Token}
 use Rattle.rsml_syntax.specs.declared.token.Word.TheVariants as words
 use Rattle.rsml_syntax.specs.declared.syntax.Decl.{Decl}
 use Rattle.rsml_syntax.specs.declared.syntax.Decl.TheVariants as decls
 use Rattle.rsml_syntax.specs.declared.syntax.Spec.{Spec}
 use Rattle.rsml_parser.specs.Declarations.{declaration}
-use Rattle.rsml_parser.specs.Reading.{Outcome, Reading, ◌>>=◌, and_then, pure, first, word, mark, name, end, many}
-use Rattle.rsml_parser.specs.States.{body, opens_declaration, specification, whole}
+use Rattle.rsml_parser.specs.Parsers.{Parser, ◌>>=◌, and_then, pure, first, word, mark, name, end, many}
+use Rattle.rsml_parser.specs.States.{opens_declaration, specification, whole}
 use Rattle.rsml_parser.proofs.BodyAgain.{body_again}
 use Rattle.rsml_parser.proofs.BodyForms.{slack, form_body}
 use Rattle.rsml_parser.proofs.BodyLists.{good_body}
@@ -23,7 +21,7 @@ use Rattle.rsml_parser.proofs.DeclarationForms.{item_declaration, declaration_ag
 use Rattle.rsml_parser.proofs.Forms.{Form, form_bind, form_pure, form_as}
 use Rattle.rsml_parser.proofs.Leaves.{form_word, form_mark, form_name}
 use Rattle.rsml_parser.proofs.Lists.{form_end}
-use Rattle.rsml_parser.proofs.Outcomes.{same_ok, bind_ok, then_ok}
+use Rattle.rsml_parser.proofs.Outcomes.{same_ok, bind_ok}
 use Rattle.rsml_parser.proofs.SpelledLists.{many_again}
 use Rattle.rsml_parser.proofs.Spelling.{both, halves, reads_many}
 
@@ -35,11 +33,10 @@ spelled s rest = put.word words.Specification (put.name s.name (put.mark marks.S
 abbrev pub good_spec : ℕ → Spec → Bool
 good_spec most s = list_all declaration_has_items s.decls && good_body most s.body
 
-abbrev pub Specifications : Reading Spec → ℕ → Type 0
+abbrev pub Specifications : Parser Spec → ℕ → Type 0
 Specifications read room = Form read (λ k s rest us. (us ≡ spelled s rest) × IsTrue (good_spec (suc (slack k room)) s))
 
 form_specification : (room : ℕ) → Specifications (specification room) room
-unfolding specification
 form_specification room = form_as
     (form_bind (form_word words.Specification) (λ _. form_bind form_name (λ n. form_bind (form_mark marks.Semicolon) (λ _. form_bind (reads_many opens_declaration item_declaration) (λ ds. form_bind (form_word words.State) (λ _.
     form_bind form_name (λ top. form_bind (form_body room) (λ b. form_pure (record { name = n; decls = ds; top = top; body = b })))))))))
@@ -82,7 +79,7 @@ declarations_again ds rest good =
     begins (decls.Send n s fs cs) rest = refl
 
 pub whole_again : (room : ℕ) (s : Spec) → IsTrue (good_spec (suc room) s) → whole room (tokens_of s) ≡ Ok (s, [])
-unfolding whole specification and_then word mark name end
+unfolding whole and_then word mark name end
 whole_again room s good =
     let is = halves (list_all declaration_has_items s.decls) (good_body (suc room) s.body) good in
     rw (declarations_again s.decls (put.name s.top (put.body s.body [])) is.0, (body_again room).again s.body [] is.1) refl

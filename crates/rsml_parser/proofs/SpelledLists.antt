@@ -1,21 +1,21 @@
 -- What is spelled is read again: tokens and lists.
-use Rattle.std.proofs.Common.{◌≡◌, ℕ, zero, suc, ◌+◌, ◌≤◌, length, arith, Bool, true, false, List, [], ◌∷◌, ◌++◌, Ok, Err, refl, sym, ap, ◌∙◌}
-use Rattle.std.specs.Prelude.{◌&&◌, not, IsTrue}
+use Rattle.std.proofs.Common.{◌≡◌, ℕ, zero, suc, ◌+◌, ◌≤◌, length, arith, Bool, true, false, List, [], ◌∷◌, Ok, Err, refl, sym, ap, ◌∙◌}
+use Rattle.std.specs.Prelude.{not, IsTrue}
 use Rattle.std.specs.List.{list_all}
 use denote.Enum.Bare.{true_same}
-use Rattle.rsml_syntax.specs.Grammar as put
-use Rattle.rsml_syntax.specs.Layout.{is_mark}
-use Rattle.rsml_syntax.specs.Marks.{same_mark}
-use Rattle.rsml_syntax.specs.Tokens.{Tokens}
-use Rattle.rsml_syntax.specs.WellFormed.{has_items}
-use Rattle.rsml_syntax.specs.Words.{same_word}
+use Rattle.rsml_syntax.specs.grammar.Grammar as put
+use Rattle.rsml_syntax.specs.grammar.Layout.{is_mark}
+use Rattle.rsml_syntax.specs.text.Marks.{same_mark}
+use Rattle.rsml_syntax.specs.text.Tokens.{Tokens}
+use Rattle.rsml_syntax.specs.grammar.WellFormed.{has_items}
+use Rattle.rsml_syntax.specs.text.Words.{same_word}
 use Rattle.rsml_syntax.specs.contracts.token.Mark as M
 use Rattle.rsml_syntax.specs.contracts.token.Word as W
 use Rattle.rsml_syntax.specs.declared.token.Mark.{Mark}
 use Rattle.rsml_syntax.specs.declared.token.Mark.TheVariants as marks
 use Rattle.rsml_syntax.specs.declared.token.Token.{Token}
 use Rattle.rsml_syntax.specs.declared.token.Word.{Word}
-use Rattle.rsml_parser.specs.Reading.{Reading, ◌>>=◌, ◌>>◌, and_then, pure, choose, first, sees_mark, word, mark, is_not, many_from, many, separated, until, in_parentheses}
+use Rattle.rsml_parser.specs.Parsers.{Parser, ◌>>=◌, ◌>>◌, and_then, pure, first, sees_mark, word, mark, is_not, many_from, many, separated, until, in_parentheses}
 use Rattle.rsml_parser.proofs.Outcomes.{then_ok, takes_first, takes_second}
 use Rattle.rsml_parser.proofs.Lists.{Shrinks, many_fuel}
 use Rattle.rsml_parser.proofs.Spelling.{halves, each_after, in_parens}
@@ -30,7 +30,7 @@ mark_again m rest = takes_first (same_mark m m) (Ok (tt, rest)) (Err (false, put
 
 -- Items, each of which begins so and is free to stand before the next.
 
-module _ {A : Type 0} (test : Token → Bool) (item : Reading A) (spell : A → Tokens → Tokens) (good : A → Bool) (Free : Tokens → Type 0)
+module _ {A : Type 0} (test : Token → Bool) (item : Parser A) (spell : A → Tokens → Tokens) (good : A → Bool) (Free : Tokens → Type 0)
     (again : (x : A) (rest : Tokens) → IsTrue (good x) → Free rest → item (spell x rest) ≡ Ok (x, rest))
     (start : (x : A) (rest : Tokens) → IsTrue (good x) → first test (spell x rest) ≡ true)
     (next : (x : A) (rest : Tokens) → IsTrue (good x) → Free (spell x rest)) where
@@ -57,19 +57,18 @@ module _ {A : Type 0} (test : Token → Bool) (item : Reading A) (spell : A → 
       many_fuel test item sh n (length xs + n) (put.each spell xs rest) (omega arith) (omega arith) ∙ from_again (length xs + n) xs rest (omega arith) all free b
 
 -- Items up to the mark, before which an item may stand.
-module _ {A : Type 0} (m : Mark) (item : Reading A) (spell : A → Tokens → Tokens) (good : A → Bool) (Free : Tokens → Type 0)
+module _ {A : Type 0} (m : Mark) (item : Parser A) (spell : A → Tokens → Tokens) (good : A → Bool) (Free : Tokens → Type 0)
     (again : (x : A) (rest : Tokens) → IsTrue (good x) → Free rest → item (spell x rest) ≡ Ok (x, rest))
     (start : (x : A) (rest : Tokens) → IsTrue (good x) → first (is_not m) (spell x rest) ≡ true)
     (next : (x : A) (rest : Tokens) → IsTrue (good x) → Free (spell x rest)) (close : (rest : Tokens) → Free (put.mark m rest)) (shrinks : Shrinks item) where
   pub until_again : (xs : List A) (rest : Tokens) → IsTrue (list_all good xs) → until m item (put.each spell xs (put.mark m rest)) ≡ Ok (xs, rest)
-  unfolding until
   until_again xs rest all =
       then_ok (many (first (is_not m)) item (put.each spell xs (put.mark m rest))) (λ xs. mark m >> pure xs) xs (put.mark m rest)
       (many_again (is_not m) item spell good Free again start next shrinks xs (put.mark m rest) all (close rest) (ap not (true_same M.the_type m m refl)))
       ∙ then_ok (mark m (put.mark m rest)) (λ _. pure xs) tt rest (mark_again m rest)
 
 -- Items with a mark between, before which an item may stand.
-module _ {A : Type 0} (m : Mark) (item : Reading A) (spell : A → Tokens → Tokens) (good : A → Bool) (Free : Tokens → Type 0)
+module _ {A : Type 0} (m : Mark) (item : Parser A) (spell : A → Tokens → Tokens) (good : A → Bool) (Free : Tokens → Type 0)
     (again : (x : A) (rest : Tokens) → IsTrue (good x) → Free rest → item (spell x rest) ≡ Ok (x, rest))
     (next : (rest : Tokens) → Free (put.mark m rest)) (shrinks : Shrinks (mark m >> item)) where
   after_again : (x : A) (rest : Tokens) → IsTrue (good x) → Free rest → (mark m >> item) (put.mark m (spell x rest)) ≡ Ok (x, rest)
@@ -81,7 +80,6 @@ module _ {A : Type 0} (m : Mark) (item : Reading A) (spell : A → Tokens → To
 
   pub separated_again : (xs : List A) (rest : Tokens) → IsTrue (has_items xs) → IsTrue (list_all good xs) → Free rest → sees_mark m rest ≡ false →
       separated m item (put.separated m spell xs rest) ≡ Ok (xs, rest)
-  unfolding separated
   separated_again [] rest has all free b = absurd cc
   separated_again (x ∷ xs) rest has all free b =
       let is = halves (good x) (list_all good xs) all in
@@ -92,13 +90,13 @@ module _ {A : Type 0} (m : Mark) (item : Reading A) (spell : A → Tokens → To
       ∙ many_again (is_mark m) (mark m >> item) (λ x r. put.mark m (spell x r)) good Free after_again (λ x r is. true_same M.the_type m m refl) (λ x r is. next (spell x r)) shrinks xs rest is.1 free b)
 
 -- in parentheses
-module _ {A : Type 0} (item : Reading A) (spell : A → Tokens → Tokens) (good : A → Bool) (Free : Tokens → Type 0)
+module _ {A : Type 0} (item : Parser A) (spell : A → Tokens → Tokens) (good : A → Bool) (Free : Tokens → Type 0)
     (again : (x : A) (rest : Tokens) → IsTrue (good x) → Free rest → item (spell x rest) ≡ Ok (x, rest))
     (start : (x : A) (rest : Tokens) → IsTrue (good x) → sees_mark marks.CloseParen (spell x rest) ≡ false)
     (comma : (rest : Tokens) → Free (put.mark marks.Comma rest)) (close : (rest : Tokens) → Free (put.mark marks.CloseParen rest))
     (shrinks : Shrinks (mark marks.Comma >> item)) where
   pub in_parentheses_again : (xs : List A) (rest : Tokens) → IsTrue (list_all good xs) → in_parentheses item (in_parens spell xs rest) ≡ Ok (xs, rest)
-  unfolding in_parentheses and_then mark
+  unfolding and_then mark
   in_parentheses_again [] rest all = refl
   in_parentheses_again (x ∷ xs) rest all =
       let ts = put.separated marks.Comma spell (x ∷ xs) (put.mark marks.CloseParen rest) in

@@ -1,41 +1,40 @@
 -- Readings of what the grammar writes: the laws of tokens and lists, in the grammar's words.
-use Rattle.std.proofs.Common.{◌≡◌, ℕ, zero, suc, ◌+◌, ◌≤◌, length, arith, Bool, true, false, List, [], ◌∷◌, ◌++◌, Ok, Err, refl, sym, ap, ◌∙◌, subst}
+use Rattle.std.proofs.Common.{◌≡◌, Bool, true, false, List, [], ◌∷◌, refl, sym, ap, ◌∙◌, subst}
 use Rattle.std.specs.Prelude.{◌&&◌, IsTrue}
 use Rattle.std.specs.List.{list_all}
-use Rattle.rsml_syntax.specs.Grammar as put
-use Rattle.rsml_syntax.specs.Layout.{is_mark}
-use Rattle.rsml_syntax.specs.Tokens.{Tokens}
-use Rattle.rsml_syntax.specs.WellFormed.{has_items}
+use Rattle.rsml_syntax.specs.grammar.Grammar as put
+use Rattle.rsml_syntax.specs.grammar.Layout.{is_mark}
+use Rattle.rsml_syntax.specs.text.Tokens.{Tokens}
+use Rattle.rsml_syntax.specs.grammar.WellFormed.{has_items}
 use Rattle.rsml_syntax.specs.declared.token.Mark.{Mark}
 use Rattle.rsml_syntax.specs.declared.token.Mark.TheVariants as marks
 use Rattle.rsml_syntax.specs.declared.token.Token.{Token}
 use Rattle.rsml_syntax.specs.declared.token.Word.{Word}
-use Rattle.rsml_parser.specs.Reading.{Reading, ◌>>=◌, ◌>>◌, pure, first, word, mark, is_not, many_from, many, separated, until, in_parentheses}
+use Rattle.rsml_parser.specs.Parsers.{Parser, ◌>>=◌, ◌>>◌, pure, first, word, mark, is_not, many, separated, until, in_parentheses}
 use Rattle.rsml_parser.proofs.Forms.{Form, form_bind, form_pure, form_as, form_if}
-use Rattle.rsml_parser.proofs.Outcomes.{then_ok, takes_first, takes_second}
 use Rattle.rsml_parser.proofs.Leaves.{form_mark}
 use Rattle.rsml_parser.proofs.Lists.{Each, Item, item_word, item_mark, item_as, form_many}
 
 -- a reading reads what `spell` writes
-abbrev pub Writes : {A : Type 0} → Reading A → (A → Tokens → Tokens) → Type 0
+abbrev pub Writes : {A : Type 0} → Parser A → (A → Tokens → Tokens) → Type 0
 Writes read spell = Form read (λ _ x rest us. us ≡ spell x rest)
 
 -- and what it reads is good
-abbrev pub Reads : {A : Type 0} → Reading A → (A → Tokens → Tokens) → (A → Bool) → Type 0
+abbrev pub Reads : {A : Type 0} → Parser A → (A → Tokens → Tokens) → (A → Bool) → Type 0
 Reads read spell good = Form read (λ _ x rest us. (us ≡ spell x rest) × IsTrue (good x))
 
 -- and it takes a token
-abbrev pub ReadsItem : {A : Type 0} → Reading A → (A → Tokens → Tokens) → (A → Bool) → Type 0
+abbrev pub ReadsItem : {A : Type 0} → Parser A → (A → Tokens → Tokens) → (A → Bool) → Type 0
 ReadsItem read spell good = Item read (λ _ x rest us. (us ≡ spell x rest) × IsTrue (good x))
 
 -- anything is good
 abbrev pub any : {A : Type 0} → A → Bool
 any x = true
 
-pub reads_any : {A : Type 0} {read : Reading A} {spell : A → Tokens → Tokens} → Writes read spell → Reads read spell any
+pub reads_any : {A : Type 0} {read : Parser A} {spell : A → Tokens → Tokens} → Writes read spell → Reads read spell any
 reads_any form = form_as form (λ k x rest us s. (s, refl))
 
-pub any_item : {A : Type 0} {read : Reading A} {spell : A → Tokens → Tokens} → Item read (λ _ x rest us. us ≡ spell x rest) → ReadsItem read spell any
+pub any_item : {A : Type 0} {read : Parser A} {spell : A → Tokens → Tokens} → Item read (λ _ x rest us. us ≡ spell x rest) → ReadsItem read spell any
 any_item item = item_as item (λ k x rest us s. (s, refl))
 
 pub all_any : {A : Type 0} (xs : List A) → IsTrue (list_all any xs)
@@ -69,12 +68,11 @@ pub each_after : {A : Type 0} (m : Mark) (spell : A → Tokens → Tokens) (xs :
 each_after m spell [] rest = refl
 each_after m spell (x ∷ xs) rest = ap (λ l. put.mark m (spell x l)) (each_after m spell xs rest)
 
-pub reads_many : {A : Type 0} {item : Reading A} {spell : A → Tokens → Tokens} {good : A → Bool} (test : Token → Bool) → ReadsItem item spell good → Reads (many (first test) item) (put.each spell) (list_all good)
+pub reads_many : {A : Type 0} {item : Parser A} {spell : A → Tokens → Tokens} {good : A → Bool} (test : Token → Bool) → ReadsItem item spell good → Reads (many (first test) item) (put.each spell) (list_all good)
 reads_many {A} {item} {spell} {good} test is = form_as (form_many test is) (λ k xs rest us s. each_good spell good xs rest us s)
 
-pub reads_separated : {A : Type 0} {item : Reading A} {spell : A → Tokens → Tokens} {good : A → Bool} (m : Mark) → Reads item spell good →
+pub reads_separated : {A : Type 0} {item : Parser A} {spell : A → Tokens → Tokens} {good : A → Bool} (m : Mark) → Reads item spell good →
     Reads (separated m item) (put.separated m spell) (λ xs. has_items xs && list_all good xs)
-unfolding separated
 reads_separated {A} {item} {spell} {good} m form =
     form_as (form_bind form (λ x. form_bind (reads_many (is_mark m) after) (λ xs. form_pure (x ∷ xs))))
     (λ k xs rest us s. let l = s.later in
@@ -86,9 +84,8 @@ reads_separated {A} {item} {spell} {good} m form =
     after : ReadsItem (mark m >> item) (λ x r. put.mark m (spell x r)) good
     after = item_as (item_mark m (λ _. form)) (λ k x rest us s. (s.before ∙ ap (put.mark m) s.later.0, s.later.1))
 
-pub reads_until : {A : Type 0} {item : Reading A} {spell : A → Tokens → Tokens} {good : A → Bool} (m : Mark) → ReadsItem item spell good →
+pub reads_until : {A : Type 0} {item : Parser A} {spell : A → Tokens → Tokens} {good : A → Bool} (m : Mark) → ReadsItem item spell good →
     Reads (until m item) (λ xs rest. put.each spell xs (put.mark m rest)) (list_all good)
-unfolding until
 reads_until {A} {item} {spell} {good} m is =
     form_as (form_bind (reads_many (is_not m) is) (λ xs. (mark_for m xs).form))
     (λ k xs rest us s. subst (λ (xs : List A). (us ≡ put.each spell xs (put.mark m rest)) × IsTrue (list_all good xs)) (sym s.later.1)
@@ -98,8 +95,7 @@ reads_until {A} {item} {spell} {good} m is =
 abbrev pub in_parens : {A : Type 0} → (A → Tokens → Tokens) → List A → Tokens → Tokens
 in_parens spell xs rest = put.mark marks.OpenParen (put.separated marks.Comma spell xs (put.mark marks.CloseParen rest))
 
-pub reads_in_parentheses : {A : Type 0} {item : Reading A} {spell : A → Tokens → Tokens} {good : A → Bool} → Reads item spell good → Reads (in_parentheses item) (in_parens spell) (list_all good)
-unfolding in_parentheses
+pub reads_in_parentheses : {A : Type 0} {item : Parser A} {spell : A → Tokens → Tokens} {good : A → Bool} → Reads item spell good → Reads (in_parentheses item) (in_parens spell) (list_all good)
 reads_in_parentheses {A} {item} {spell} {good} form =
     form_as (form_bind (form_mark marks.OpenParen) (λ _. form_if none some)) (λ k xs rest us s. (s.before ∙ ap (put.mark marks.OpenParen) s.later.0, s.later.1))
   where

@@ -1,5 +1,4 @@
 -- Reading declarations.
-use Rattle.std.specs.Prelude.{List, Option}
 use Rattle.rsml_syntax.specs.declared.token.Mark.TheVariants as marks
 use Rattle.rsml_syntax.specs.declared.token.Word.TheVariants as words
 use Rattle.rsml_syntax.specs.declared.syntax.Answer.{Answer}
@@ -13,22 +12,26 @@ use Rattle.rsml_syntax.specs.declared.syntax.Value.TheVariants as values
 use Rattle.rsml_parser.specs.Mentions.{signed, size, mention, initial}
 use Rattle.rsml_parser.specs.Sums.{sum}
 use Rattle.rsml_parser.specs.Tables.{table, when_guard}
-use Rattle.rsml_parser.specs.Reading.{Reading, ◌>>=◌, ◌>>◌, pure, choose, sees_word, word, mark, name, separated, until, in_parentheses}
+use Rattle.rsml_parser.specs.Parsers.{Parser, ◌>>=◌, ◌>>◌, pure, choose, sees_word, word, mark, name, separated, until, in_parentheses}
 
-unfoldable pub case_of : Reading Case
+-- a sum, its guard, and `;`
+abbrev pub case_of : Parser Case
 case_of = do
   v ← sum
   g ← when_guard
   mark marks.Semicolon
   pure (record { value = v; guard = g })
 
-unfoldable pub value : Reading Value
+-- a sum, or `function` and a mention
+abbrev pub value : Parser Value
 value = choose (sees_word words.Function) (word words.Function >> mention >>= (λ f. pure (values.Function f))) (sum >>= (λ s. pure (values.Sum s)))
 
-unfoldable pub answer : Reading Answer
+-- `quiet`, or values in parentheses
+abbrev pub answer : Parser Answer
 answer = choose (sees_word words.Quiet) (word words.Quiet >> pure answers.Quiet) (in_parentheses value >>= (λ vs. pure (answers.Values vs)))
 
-unfoldable pub send_case : Reading SendCase
+-- `on`, the trigger, its guard, the answer, and `;`
+abbrev pub send_case : Parser SendCase
 send_case = do
   word words.On
   m ← mention
@@ -37,7 +40,8 @@ send_case = do
   mark marks.Semicolon
   pure (record { trigger = m; guard = g; answer = a })
 
-unfoldable pub enumeration : Reading Decl
+-- `enumeration`, its name, and its values in braces
+abbrev pub enumeration : Parser Decl
 enumeration = do
   word words.Enumeration
   n ← name
@@ -46,7 +50,8 @@ enumeration = do
   mark marks.CloseBrace
   pure (decls.Enumeration n vs)
 
-unfoldable pub range : Reading Decl
+-- `range`, its name, its ends with `..` between, and `;`
+abbrev pub range : Parser Decl
 range = do
   word words.Range
   n ← name
@@ -56,7 +61,8 @@ range = do
   mark marks.Semicolon
   pure (decls.Range n l h)
 
-unfoldable pub constant : Reading Decl
+-- `constant`, its name, `=`, its number, and `;`
+abbrev pub constant : Parser Decl
 constant = do
   word words.Constant
   n ← name
@@ -65,7 +71,8 @@ constant = do
   mark marks.Semicolon
   pure (decls.Constant n v)
 
-unfoldable pub input : Reading Decl
+-- `input`, its name and size, `:`, its type, `=`, its initial value, and `;`
+abbrev pub input : Parser Decl
 input = do
   word words.Input
   n ← name
@@ -77,7 +84,8 @@ input = do
   mark marks.Semicolon
   pure (decls.Input n s k i)
 
-unfoldable pub event : Reading Decl
+-- `event`, its name and size, and `;`
+abbrev pub event : Parser Decl
 event = do
   word words.Event
   n ← name
@@ -85,7 +93,8 @@ event = do
   mark marks.Semicolon
   pure (decls.Event n s)
 
-unfoldable pub macro_table : Reading Decl
+-- `macro`, its name and size, and its table
+abbrev pub macro_table : Parser Decl
 macro_table = do
   word words.Macro
   n ← name
@@ -93,7 +102,8 @@ macro_table = do
   rows ← table
   pure (decls.Macro n s rows)
 
-unfoldable pub function : Reading Decl
+-- `function`, its name and size, and its cases in braces
+abbrev pub function : Parser Decl
 function = do
   word words.Function
   n ← name
@@ -102,7 +112,8 @@ function = do
   cases ← until marks.CloseBrace case_of
   pure (decls.Function n s cases)
 
-unfoldable pub receive : Reading Decl
+-- `receive`, its name and size, its inputs in parentheses, `raise`, an event, and `;`
+abbrev pub receive : Parser Decl
 receive = do
   word words.Receive
   n ← name
@@ -113,7 +124,8 @@ receive = do
   mark marks.Semicolon
   pure (decls.Receive n s inputs raised)
 
-unfoldable pub send : Reading Decl
+-- `send`, its name and size, its fields in parentheses, and its cases in braces
+abbrev pub send : Parser Decl
 send = do
   word words.Send
   n ← name
@@ -123,7 +135,8 @@ send = do
   cases ← until marks.CloseBrace send_case
   pure (decls.Send n s fields cases)
 
-unfoldable pub declaration : Reading Decl
+-- a declaration, by its first word
+abbrev pub declaration : Parser Decl
 declaration = choose (sees_word words.Enumeration) enumeration (choose (sees_word words.Range) range (choose (sees_word words.Constant) constant
     (choose (sees_word words.Input) input (choose (sees_word words.Event) event (choose (sees_word words.Macro) macro_table
     (choose (sees_word words.Function) function (choose (sees_word words.Receive) receive send)))))))

@@ -1,10 +1,16 @@
 -- Laws of the grammar and of texts.
-use Rattle.std.specs.Prelude.{◌≡◌, ℕ, ◌≤◌, List}
-use Rattle.rsml_syntax.specs.Grammar.{tokens_of}
-use Rattle.rsml_syntax.specs.Layout.{layout}
-use Rattle.rsml_syntax.specs.Places.{Reads}
-use Rattle.rsml_syntax.specs.WellFormed.{WellFormed, nests, deepest}
+use Rattle.std.specs.Prelude.{◌≡◌, ◌⊎◌, ℕ, ◌≤◌, List, Result, Ok, Err}
+use Rattle.rsml_parser.specs.declared.error.ParseError.{ParseError}
+use Rattle.rsml_parser.specs.declared.error.ParseError.TheVariants as errors
+use Rattle.rsml_syntax.specs.declared.edition.Edition.TheVariants as editions
+use Rattle.rsml_syntax.specs.declared.token.Token.TheVariants as token
+use Rattle.rsml_syntax.specs.declared.token.Word.TheVariants as words
+use Rattle.rsml_syntax.specs.grammar.Grammar.{tokens_of}
+use Rattle.rsml_syntax.specs.grammar.Layout.{layout, open_braces}
+use Rattle.rsml_syntax.specs.grammar.Places.{Reads, IsTokensOf, IsSyntaxFault, IsDepthPlace}
+use Rattle.rsml_syntax.specs.grammar.WellFormed.{WellFormed, nests, deepest}
 use Rattle.rsml_syntax.specs.declared.syntax.Spec.{Spec}
+use Rattle.rsml_syntax.specs.text.Tokens.{Tokens, AreTokens}
 
 -- two specifications with the same tokens are the same, however deep they nest
 abbrev pub IsUnambiguous : Type 0
@@ -17,3 +23,20 @@ AtMostOneSpecification = (bytes : List ℕ) (s t : Spec) → Reads bytes s → R
 -- the layout of a specification reads as that specification
 abbrev pub LayoutReadsAgain : Type 0
 LayoutReadsAgain = (s : Spec) → WellFormed s → nests s ≤ deepest → Reads (layout (tokens_of s)) s
+
+-- the answer is true of the tokens: they are the specification, or the fault stands at the place
+abbrev pub IsTrueAnswer : Tokens → Result Spec ParseError → Type 0
+IsTrueAnswer ts (Ok s) = IsTokensOf ts s
+IsTrueAnswer ts (Err (errors.Syntax place)) = IsSyntaxFault ts place
+IsTrueAnswer ts (Err (errors.TooDeep place)) = IsDepthPlace ts place
+IsTrueAnswer ts (Err errors.NoMemory) = ⊥
+
+-- each list of tokens has an answer that is true of it, and no other
+abbrev pub HasOneAnswer : Type 0
+HasOneAnswer = (ts : Tokens) → AreTokens editions.Second ts →
+    (answer : Result Spec ParseError) × IsTrueAnswer ts answer × ((other : Result Spec ParseError) → IsTrueAnswer ts other → other ≡ answer)
+
+-- The token at a depth place opens a state inside 16 others. Where a state opens, each open brace is that of a state.
+abbrev pub OpensInsideSixteen : Type 0
+OpensInsideSixteen = (ts : Tokens) (place : ℕ) (deep : IsDepthPlace ts place) →
+    ((deep.token ≡ token.Word words.State) ⊎ (deep.token ≡ token.Word words.Array)) × (open_braces deep.before ≡ deepest)

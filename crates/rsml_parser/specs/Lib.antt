@@ -1,4 +1,4 @@
-pub mod Reading
+pub mod Parsers
 pub mod Mentions
 pub mod Sums
 pub mod Phrases

@@ -10,49 +10,59 @@ use Rattle.rsml_syntax.specs.declared.syntax.Initial.{Initial}
 use Rattle.rsml_syntax.specs.declared.syntax.Initial.TheVariants as initials
 use Rattle.rsml_syntax.specs.declared.syntax.Mention.{Mention}
 use Rattle.rsml_syntax.specs.declared.syntax.Signed.{Signed}
-use Rattle.rsml_parser.specs.Reading.{Reading, ◌>>=◌, ◌>>◌, pure, choose, sees_mark, sees_name, sees_number, word, mark, name, number}
+use Rattle.rsml_parser.specs.Parsers.{Parser, ◌>>=◌, ◌>>◌, pure, choose, sees_mark, sees_name, sees_number, word, mark, name, number}
 
-unfoldable pub minus : Reading Bool
+-- a minus, or nothing
+abbrev pub minus : Parser Bool
 minus = choose (sees_mark marks.Minus) (mark marks.Minus >> pure true) (pure false)
 
-unfoldable pub signed : Reading Signed
+-- a number, maybe with a minus before it
+abbrev pub signed : Parser Signed
 signed = do
   m ← minus
   n ← number
   pure (record { minus = m; digits = n })
 
-unfoldable pub amount : Reading Amount
+-- a number or a name
+abbrev pub amount : Parser Amount
 amount = choose sees_number (number >>= (λ n. pure (amounts.Number n))) (name >>= (λ n. pure (amounts.Name n)))
 
-unfoldable pub bracketed_amount : Reading Amount
+-- an amount in brackets
+abbrev pub bracketed_amount : Parser Amount
 bracketed_amount = do
   mark marks.OpenBracket
   a ← amount
   mark marks.CloseBracket
   pure a
 
-unfoldable pub size : Reading (Option Amount)
+-- an amount in brackets, or nothing
+abbrev pub size : Parser (Option Amount)
 size = choose (sees_mark marks.OpenBracket) (bracketed_amount >>= (λ a. pure (Some a))) (pure None)
 
-unfoldable pub index : Reading Index
+-- a number, a name, or `this`
+abbrev pub index : Parser Index
 index = choose sees_number (number >>= (λ n. pure (indices.Number n)))
     (choose sees_name (name >>= (λ n. pure (indices.Name n))) (word words.This >> pure indices.This))
 
-unfoldable pub bracketed_index : Reading Index
+-- an index in brackets
+abbrev pub bracketed_index : Parser Index
 bracketed_index = do
   mark marks.OpenBracket
   i ← index
   mark marks.CloseBracket
   pure i
 
-unfoldable pub indexed : Reading (Option Index)
+-- an index in brackets, or nothing
+abbrev pub indexed : Parser (Option Index)
 indexed = choose (sees_mark marks.OpenBracket) (bracketed_index >>= (λ i. pure (Some i))) (pure None)
 
-unfoldable pub mention : Reading Mention
+-- a name, maybe with an index
+abbrev pub mention : Parser Mention
 mention = do
   n ← name
   i ← indexed
   pure (record { name = n; index = i })
 
-unfoldable pub initial : Reading Initial
+-- a name, or a number with its sign
+abbrev pub initial : Parser Initial
 initial = choose sees_name (name >>= (λ n. pure (initials.Name n))) (signed >>= (λ s. pure (initials.Number s)))

@@ -1,6 +1,5 @@
 -- Reading phrases.
-use Rattle.std.specs.Prelude.{List}
-use Rattle.rsml_syntax.specs.Names.{Name}
+use Rattle.rsml_syntax.specs.text.Names.{Name}
 use Rattle.rsml_syntax.specs.declared.token.Mark.TheVariants as marks
 use Rattle.rsml_syntax.specs.declared.token.Word.TheVariants as words
 use Rattle.rsml_syntax.specs.declared.syntax.Amount.{Amount}
@@ -10,15 +9,18 @@ use Rattle.rsml_syntax.specs.declared.syntax.Simple.{Simple}
 use Rattle.rsml_syntax.specs.declared.syntax.Simple.TheVariants as simples
 use Rattle.rsml_parser.specs.Mentions.{amount, mention}
 use Rattle.rsml_parser.specs.Sums.{sum, relation}
-use Rattle.rsml_parser.specs.Reading.{Reading, ◌>>=◌, ◌>>◌, pure, choose, sees_word, word, mark, name, separated}
+use Rattle.rsml_parser.specs.Parsers.{Parser, ◌>>=◌, ◌>>◌, pure, choose, sees_word, word, mark, name, separated}
 
-unfoldable pub path : Reading Simple
+-- `in`, and mentions with dots between
+abbrev pub path : Parser Simple
 path = word words.In >> separated marks.Dot mention >>= (λ p. pure (simples.In p))
 
-unfoldable pub of_macro : Reading Simple
+-- `macro`, and a mention
+abbrev pub of_macro : Parser Simple
 of_macro = word words.Macro >> mention >>= (λ m. pure (simples.Macro m))
 
-unfoldable pub of_function : Reading Simple
+-- `function`, a mention, a relation, and a sum
+abbrev pub of_function : Parser Simple
 of_function = do
   word words.Function
   f ← mention
@@ -26,18 +28,20 @@ of_function = do
   s ← sum
   pure (simples.Function f r s)
 
-unfoldable pub comparison : Reading Simple
+-- a sum, a relation, and a sum
+abbrev pub comparison : Parser Simple
 comparison = do
   l ← sum
   r ← relation
   s ← sum
   pure (simples.Compare l r s)
 
-unfoldable pub simple : Reading Simple
+-- what a phrase says, by its first word
+abbrev pub simple : Parser Simple
 simple = choose (sees_word words.In) path (choose (sees_word words.Macro) of_macro (choose (sees_word words.Function) of_function comparison))
 
 -- the variable, the bound and the body, after the quantifier
-unfoldable pub quantified : Reading (Name × Amount × Simple)
+abbrev pub quantified : Parser (Name × Amount × Simple)
 quantified = do
   v ← name
   word words.Of
@@ -46,7 +50,8 @@ quantified = do
   s ← simple
   pure (v, b, s)
 
-unfoldable pub phrase : Reading Phrase
+-- a phrase, maybe with `some` or `every` before it
+abbrev pub phrase : Parser Phrase
 phrase = choose (sees_word words.Any) (word words.Any >> quantified >>= (λ q. pure (phrases.Any q.0 q.1 q.2)))
     (choose (sees_word words.Every) (word words.Every >> quantified >>= (λ q. pure (phrases.Every q.0 q.1 q.2)))
     (simple >>= (λ s. pure (phrases.Plain s))))

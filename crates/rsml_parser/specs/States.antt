@@ -1,7 +1,7 @@
 -- Reading states and specifications.
-use Rattle.std.specs.Prelude.{ℕ, zero, suc, Bool, ◌||◌, not, List, [], ◌∷◌, Option, Some, None}
-use Rattle.rsml_syntax.specs.Layout.{is_the_word}
-use Rattle.rsml_syntax.specs.Names.{Name}
+use Rattle.std.specs.Prelude.{ℕ, zero, suc, Bool, ◌||◌, not, List, [], Option, Some, None}
+use Rattle.rsml_syntax.specs.grammar.Layout.{is_the_word}
+use Rattle.rsml_syntax.specs.text.Names.{Name}
 use Rattle.rsml_syntax.specs.declared.token.Mark.TheVariants as marks
 use Rattle.rsml_syntax.specs.declared.token.Token.{Token}
 use Rattle.rsml_syntax.specs.declared.token.Word.TheVariants as words
@@ -14,9 +14,10 @@ use Rattle.rsml_syntax.specs.declared.syntax.Transition.{Transition}
 use Rattle.rsml_parser.specs.Declarations.{declaration}
 use Rattle.rsml_parser.specs.Mentions.{bracketed_amount, mention}
 use Rattle.rsml_parser.specs.Tables.{when_guard}
-use Rattle.rsml_parser.specs.Reading.{Reading, ◌>>=◌, ◌>>◌, pure, choose, first, sees_mark, sees_word, word, mark, name, end, too_deep, many, separated, until}
+use Rattle.rsml_parser.specs.Parsers.{Parser, ◌>>=◌, ◌>>◌, pure, choose, first, sees_mark, sees_word, word, mark, name, end, too_deep, many, separated, until}
 
-unfoldable pub bus : Reading Bus
+-- `bus`, its name, and its members in braces
+abbrev pub bus : Parser Bus
 bus = do
   word words.Bus
   n ← name
@@ -26,7 +27,7 @@ bus = do
   pure (record { name = n; members = ms })
 
 -- a source and the target, if there is one
-unfoldable pub movement : Reading (Name × Option (List Name))
+abbrev pub movement : Parser (Name × Option (List Name))
 movement = choose (sees_word words.Move)
     (do
       word words.Move
@@ -36,10 +37,12 @@ movement = choose (sees_word words.Move)
       pure (source, Some target))
     (word words.Stay >> name >>= (λ source. pure (source, None)))
 
-unfoldable pub raises : Reading (List Mention)
+-- `raise` and mentions, or nothing
+abbrev pub raises : Parser (List Mention)
 raises = choose (sees_word words.Raise) (word words.Raise >> separated marks.Comma mention) (pure [])
 
-unfoldable pub transition : Reading Transition
+-- the movement, `on` and its trigger, its guard, what it raises, and `;`
+abbrev pub transition : Parser Transition
 transition = do
   way ← movement
   word words.On
@@ -53,14 +56,16 @@ transition = do
 abbrev pub opens_state : Token → Bool
 opens_state t = is_the_word words.State t || is_the_word words.Array t
 
-unfoldable pub plain_state : Reading Body → Reading StateDecl
+-- `state`, its name, and its body
+abbrev pub plain_state : Parser Body → Parser StateDecl
 plain_state inner = do
   word words.State
   n ← name
   b ← inner
   pure (record { name = n; size = None; body = b })
 
-unfoldable pub array_of_states : Reading Body → Reading StateDecl
+-- `array`, its name, its size, and its body
+abbrev pub array_of_states : Parser Body → Parser StateDecl
 array_of_states inner = do
   word words.Array
   n ← name
@@ -68,10 +73,12 @@ array_of_states inner = do
   b ← inner
   pure (record { name = n; size = Some s; body = b })
 
-unfoldable pub child : Reading Body → Reading StateDecl
+-- a state or an array of states
+abbrev pub child : Parser Body → Parser StateDecl
 child inner = choose (sees_word words.Array) (array_of_states inner) (plain_state inner)
 
-unfoldable pub one_of : Reading (List StateDecl) → Reading Body
+-- `one`, and in braces its default, its children, its buses and its transitions
+abbrev pub one_of : Parser (List StateDecl) → Parser Body
 one_of inner = do
   word words.One
   mark marks.OpenBrace
@@ -83,7 +90,8 @@ one_of inner = do
   ts ← until marks.CloseBrace transition
   pure (One n cs bs ts)
 
-unfoldable pub all_of : Reading (List StateDecl) → Reading Body
+-- `all`, and its children in braces
+abbrev pub all_of : Parser (List StateDecl) → Parser Body
 all_of inner = do
   word words.All
   mark marks.OpenBrace
@@ -91,27 +99,29 @@ all_of inner = do
   mark marks.CloseBrace
   pure (All cs)
 
-unfoldable pub body_of : Reading (List StateDecl) → Reading Body
+-- a body, by its first token
+abbrev pub body_of : Parser (List StateDecl) → Parser Body
 body_of inner = choose (sees_mark marks.Semicolon) (mark marks.Semicolon >> pure Basic) (choose (sees_word words.One) (one_of inner) (all_of inner))
 
 -- children, where no state may open
-unfoldable pub no_children : Reading (List StateDecl)
+abbrev pub no_children : Parser (List StateDecl)
 no_children = choose (first opens_state) too_deep (pure [])
 
 -- children, in which at most so many states may be nested
-unfoldable pub children : ℕ → Reading (List StateDecl)
+unfoldable pub children : ℕ → Parser (List StateDecl)
 children zero = no_children
 children (suc room) = many (first opens_state) (child (body_of (children room)))
 
 -- a body, in which at most so many states may be nested
-unfoldable pub body : ℕ → Reading Body
+abbrev pub body : ℕ → Parser Body
 body room = body_of (children room)
 
+-- a declaration begins with this token, since it is not the word `state`
 abbrev pub opens_declaration : Token → Bool
 opens_declaration t = not (is_the_word words.State t)
 
 -- in the top state at most so many states may be nested
-unfoldable pub specification : ℕ → Reading Spec
+abbrev pub specification : ℕ → Parser Spec
 specification room = do
   word words.Specification
   n ← name
@@ -123,7 +133,7 @@ specification room = do
   pure (record { name = n; decls = ds; top = top; body = b })
 
 -- a specification is all of the tokens
-unfoldable pub whole : ℕ → Reading Spec
+unfoldable pub whole : ℕ → Parser Spec
 whole room = do
   s ← specification room
   end

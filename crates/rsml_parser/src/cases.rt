@@ -1,7 +1,7 @@
 ghost use Rattle.std.specs.Prelude.{◌≡◌};
 ghost use Rattle.rsml_parser.specs.Declarations as spec;
-ghost use Rattle.rsml_parser.specs.Reading as reading;
-ghost use Rattle.rsml_parser.specs.Reading.{Gives};
+ghost use Rattle.rsml_parser.specs.Parsers as parsers;
+ghost use Rattle.rsml_parser.specs.Parsers.{Gives};
 ghost use Rattle.rsml_syntax.specs.declared.token.Mark.TheVariants as marks;
 
 use crate::list::{Item, Listed, in_parentheses};
@@ -13,7 +13,6 @@ use rsml_syntax::{Answer, Case, Mark, SendCase, Value, Word};
 use std::alloc::Global;
 
 /// A case of a function.
-#[tactic(auto, unfolding(crate::specs::Reading::and_then, crate::specs::Declarations::case_of))]
 fn case_of(alloc: Global, reader: &mut Reader<'_>) -> Result<Case, Fault>
     ensures { Gives (spec.case_of reader.old) result reader.new }
 {
@@ -24,7 +23,7 @@ fn case_of(alloc: Global, reader: &mut Reader<'_>) -> Result<Case, Fault>
 }
 
 impl Item for Case {
-    ghost reading = { spec.case_of };
+    ghost parser = { spec.case_of };
 
     fn read(alloc: Global, reader: &mut Reader<'_>) -> Result<Case, Fault> {
         case_of(alloc, reader)
@@ -32,14 +31,13 @@ impl Item for Case {
 }
 
 impl Listed for Case {
-    ghost begins = { reading.is_not marks.CloseBrace };
+    ghost begins = { parsers.is_not marks.CloseBrace };
 
     fn begins(reader: &Reader<'_>) -> bool {
         reader.goes_on(Mark::CloseBrace)
     }
 }
 
-#[tactic(auto, unfolding(crate::specs::Reading::and_then, crate::specs::Declarations::value))]
 fn value(alloc: Global, reader: &mut Reader<'_>) -> Result<Value, Fault>
     ensures { Gives (spec.value reader.old) result reader.new }
 {
@@ -53,14 +51,13 @@ fn value(alloc: Global, reader: &mut Reader<'_>) -> Result<Value, Fault>
 }
 
 impl Item for Value {
-    ghost reading = { spec.value };
+    ghost parser = { spec.value };
 
     fn read(alloc: Global, reader: &mut Reader<'_>) -> Result<Value, Fault> {
         value(alloc, reader)
     }
 }
 
-#[tactic(auto, unfolding(crate::specs::Reading::and_then, crate::specs::Declarations::answer))]
 fn answer(alloc: Global, reader: &mut Reader<'_>) -> Result<Answer, Fault>
     ensures { Gives (spec.answer reader.old) result reader.new }
 {
@@ -73,7 +70,6 @@ fn answer(alloc: Global, reader: &mut Reader<'_>) -> Result<Answer, Fault>
 }
 
 /// A case of a send.
-#[tactic(auto, unfolding(crate::specs::Reading::and_then, crate::specs::Declarations::send_case))]
 fn send_case(alloc: Global, reader: &mut Reader<'_>) -> Result<SendCase, Fault>
     ensures { Gives (spec.send_case reader.old) result reader.new }
 {
@@ -90,7 +86,7 @@ fn send_case(alloc: Global, reader: &mut Reader<'_>) -> Result<SendCase, Fault>
 }
 
 impl Item for SendCase {
-    ghost reading = { spec.send_case };
+    ghost parser = { spec.send_case };
 
     fn read(alloc: Global, reader: &mut Reader<'_>) -> Result<SendCase, Fault> {
         send_case(alloc, reader)
@@ -98,7 +94,7 @@ impl Item for SendCase {
 }
 
 impl Listed for SendCase {
-    ghost begins = { reading.is_not marks.CloseBrace };
+    ghost begins = { parsers.is_not marks.CloseBrace };
 
     fn begins(reader: &Reader<'_>) -> bool {
         reader.goes_on(Mark::CloseBrace)

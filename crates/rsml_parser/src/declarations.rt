@@ -1,6 +1,6 @@
 ghost use Rattle.std.specs.Prelude.{◌≡◌};
 ghost use Rattle.rsml_parser.specs.Declarations as spec;
-ghost use Rattle.rsml_parser.specs.Reading.{Gives};
+ghost use Rattle.rsml_parser.specs.Parsers.{Gives};
 
 use crate::list::{in_parentheses, separated, until};
 use crate::mentions::{initial, mention, signed, size};
@@ -9,7 +9,6 @@ use crate::tables::table;
 use rsml_syntax::{Decl, Mark, Word};
 use std::alloc::Global;
 
-#[tactic(auto, unfolding(crate::specs::Reading::and_then, crate::specs::Declarations::enumeration))]
 fn enumeration(alloc: Global, reader: &mut Reader<'_>) -> Result<Decl, Fault>
     ensures { Gives (spec.enumeration reader.old) result reader.new }
 {
@@ -21,7 +20,6 @@ fn enumeration(alloc: Global, reader: &mut Reader<'_>) -> Result<Decl, Fault>
     Ok(Decl::Enumeration { name, values })
 }
 
-#[tactic(auto, unfolding(crate::specs::Reading::and_then, crate::specs::Declarations::range))]
 fn range(alloc: Global, reader: &mut Reader<'_>) -> Result<Decl, Fault>
     ensures { Gives (spec.range reader.old) result reader.new }
 {
@@ -34,7 +32,6 @@ fn range(alloc: Global, reader: &mut Reader<'_>) -> Result<Decl, Fault>
     Ok(Decl::Range { name, low, high })
 }
 
-#[tactic(auto, unfolding(crate::specs::Reading::and_then, crate::specs::Declarations::constant))]
 fn constant(alloc: Global, reader: &mut Reader<'_>) -> Result<Decl, Fault>
     ensures { Gives (spec.constant reader.old) result reader.new }
 {
@@ -46,7 +43,6 @@ fn constant(alloc: Global, reader: &mut Reader<'_>) -> Result<Decl, Fault>
     Ok(Decl::Constant { name, value })
 }
 
-#[tactic(auto, unfolding(crate::specs::Reading::and_then, crate::specs::Declarations::input))]
 fn input(alloc: Global, reader: &mut Reader<'_>) -> Result<Decl, Fault>
     ensures { Gives (spec.input reader.old) result reader.new }
 {
@@ -66,7 +62,6 @@ fn input(alloc: Global, reader: &mut Reader<'_>) -> Result<Decl, Fault>
     })
 }
 
-#[tactic(auto, unfolding(crate::specs::Reading::and_then, crate::specs::Declarations::event))]
 fn event(alloc: Global, reader: &mut Reader<'_>) -> Result<Decl, Fault>
     ensures { Gives (spec.event reader.old) result reader.new }
 {
@@ -77,7 +72,6 @@ fn event(alloc: Global, reader: &mut Reader<'_>) -> Result<Decl, Fault>
     Ok(Decl::Event { name, size })
 }
 
-#[tactic(auto, unfolding(crate::specs::Reading::and_then, crate::specs::Declarations::macro_table))]
 fn macro_table(alloc: Global, reader: &mut Reader<'_>) -> Result<Decl, Fault>
     ensures { Gives (spec.macro_table reader.old) result reader.new }
 {
@@ -88,7 +82,6 @@ fn macro_table(alloc: Global, reader: &mut Reader<'_>) -> Result<Decl, Fault>
     Ok(Decl::Macro { name, size, rows })
 }
 
-#[tactic(auto, unfolding(crate::specs::Reading::and_then, crate::specs::Declarations::function))]
 fn function(alloc: Global, reader: &mut Reader<'_>) -> Result<Decl, Fault>
     ensures { Gives (spec.function reader.old) result reader.new }
 {
@@ -100,7 +93,6 @@ fn function(alloc: Global, reader: &mut Reader<'_>) -> Result<Decl, Fault>
     Ok(Decl::Function { name, size, cases })
 }
 
-#[tactic(auto, unfolding(crate::specs::Reading::and_then, crate::specs::Declarations::receive))]
 fn receive(alloc: Global, reader: &mut Reader<'_>) -> Result<Decl, Fault>
     ensures { Gives (spec.receive reader.old) result reader.new }
 {
@@ -119,7 +111,6 @@ fn receive(alloc: Global, reader: &mut Reader<'_>) -> Result<Decl, Fault>
     })
 }
 
-#[tactic(auto, unfolding(crate::specs::Reading::and_then, crate::specs::Declarations::send))]
 fn send(alloc: Global, reader: &mut Reader<'_>) -> Result<Decl, Fault>
     ensures { Gives (spec.send reader.old) result reader.new }
 {
@@ -137,7 +128,6 @@ fn send(alloc: Global, reader: &mut Reader<'_>) -> Result<Decl, Fault>
     })
 }
 
-#[tactic(auto, unfolding(crate::specs::Declarations::declaration))]
 pub fn declaration(alloc: Global, reader: &mut Reader<'_>) -> Result<Decl, Fault>
     ensures { Gives (spec.declaration reader.old) result reader.new }
 {

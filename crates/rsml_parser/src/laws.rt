@@ -1,4 +1,4 @@
-ghost use Rattle.rsml_parser.specs.Laws.{IsUnambiguous, AtMostOneSpecification, LayoutReadsAgain};
+ghost use Rattle.rsml_parser.specs.Laws.{IsUnambiguous, AtMostOneSpecification, LayoutReadsAgain, HasOneAnswer, OpensInsideSixteen};
 
 /// No specification has a second reading: its tokens are those of no other.
 pub fn grammar_is_unambiguous()
@@ -13,4 +13,15 @@ pub fn at_most_one_specification()
 /// The layout of a specification that nests at most 16 states reads as that specification.
 pub fn layout_reads_again()
     ensures { LayoutReadsAgain }
+{}
+
+/// Each list of tokens is that of one specification, or has one fault of syntax, or one token that opens a state too many:
+/// exactly one of these.
+pub fn tokens_have_one_answer()
+    ensures { HasOneAnswer }
+{}
+
+/// A token that opens a state too many is `state` or `array`, and 16 braces are open before it: those of 16 states.
+pub fn deep_token_opens_inside_sixteen()
+    ensures { OpensInsideSixteen }
 {}

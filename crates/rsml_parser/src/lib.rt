@@ -1,5 +1,5 @@
 //! Reads tokens as specifications, or finds the place of their first fault.
-#![tactic(auto)]
+#![tactic(auto, unfolding(crate::specs::Parsers::and_then))]
 
 mod cases;
 mod declarations;
@@ -13,9 +13,10 @@ mod specification;
 mod states;
 mod sums;
 mod tables;
-#[cfg(test)]
-mod tests;
 
 pub use error::ParseError;
-pub use laws::{at_most_one_specification, grammar_is_unambiguous, layout_reads_again};
-pub use specification::parse;
+pub use laws::{
+    at_most_one_specification, deep_token_opens_inside_sixteen, grammar_is_unambiguous,
+    layout_reads_again, tokens_have_one_answer,
+};
+pub use specification::{MOST_TOKENS, parse};

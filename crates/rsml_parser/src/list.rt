@@ -1,6 +1,6 @@
 ghost use Rattle.std.specs.Prelude.{◌≡◌, [], ◌∷◌};
-ghost use Rattle.rsml_parser.specs.Reading as spec;
-ghost use Rattle.rsml_parser.specs.Reading.{Gives};
+ghost use Rattle.rsml_parser.specs.Parsers as spec;
+ghost use Rattle.rsml_parser.specs.Parsers.{Gives};
 
 use crate::reader::{Fault, Reader};
 use rsml_syntax::{List, Mark};
@@ -8,12 +8,12 @@ use std::alloc::Global;
 
 /// What a list holds.
 pub trait Item: Drop {
-    ghost use Rattle.rsml_parser.specs.Reading.{Reading};
+    ghost use Rattle.rsml_parser.specs.Parsers.{Parser};
 
-    ghost reading: { Reading Self };
+    ghost parser: { Parser Self };
 
     fn read(alloc: Global, reader: &mut Reader<'_>) -> Result<Self, Fault>
-        ensures { Gives (reading reader.old) result reader.new };
+        ensures { Gives (parser reader.old) result reader.new };
 }
 
 /// What a list holds without marks between.
@@ -34,7 +34,7 @@ fn and_more<T: Listed>(
     reader: &mut Reader<'_>,
     mut found: List<T>,
 ) -> Result<List<T>, Fault>
-    ensures { Gives (spec.and_more (spec.first T.begins) T.reading found reader.old) result reader.new }
+    ensures { Gives (spec.and_more (spec.first T.begins) T.parser found reader.old) result reader.new }
 {
     for _turn in 0..reader.left() {
         if !T::begins(reader) {
@@ -50,7 +50,7 @@ fn and_more<T: Listed>(
 
 /// The items that follow.
 pub fn many<T: Listed>(alloc: Global, reader: &mut Reader<'_>) -> Result<List<T>, Fault>
-    ensures { Gives (spec.many (spec.first T.begins) T.reading reader.old) result reader.new }
+    ensures { Gives (spec.many (spec.first T.begins) T.parser reader.old) result reader.new }
 {
     and_more(alloc, reader, List::new(alloc))
 }
@@ -61,7 +61,7 @@ pub fn many_after<T: Listed>(
     reader: &mut Reader<'_>,
     first: T,
 ) -> Result<List<T>, Fault>
-    ensures { Gives (spec.and_more (spec.first T.begins) T.reading (first ∷ []) reader.old) result reader.new }
+    ensures { Gives (spec.and_more (spec.first T.begins) T.parser (first ∷ []) reader.old) result reader.new }
 {
     let mut found = List::new(alloc);
     found.push(first)?;
@@ -69,13 +69,12 @@ pub fn many_after<T: Listed>(
 }
 
 /// An item, and others while the mark stands between.
-#[tactic(auto, unfolding(crate::specs::Reading::and_then, crate::specs::Reading::separated))]
 pub fn separated<T: Item>(
     alloc: Global,
     reader: &mut Reader<'_>,
     mark: Mark,
 ) -> Result<List<T>, Fault>
-    ensures { Gives (spec.separated mark T.reading reader.old) result reader.new }
+    ensures { Gives (spec.separated mark T.parser reader.old) result reader.new }
 {
     let first = T::read(alloc, reader)?;
     let mut found = List::new(alloc);
@@ -94,14 +93,13 @@ pub fn separated<T: Item>(
 }
 
 /// Items up to the mark that closes the list.
-#[tactic(auto, unfolding(crate::specs::Reading::and_then, crate::specs::Reading::until))]
 pub fn until<T: Listed>(
     alloc: Global,
     reader: &mut Reader<'_>,
     mark: Mark,
 ) -> Result<List<T>, Fault>
     requires { T.begins ≡ spec.is_not mark }
-    ensures { Gives (spec.until mark T.reading reader.old) result reader.new }
+    ensures { Gives (spec.until mark T.parser reader.old) result reader.new }
 {
     let found = many(alloc, reader)?;
     reader.mark(mark)?;
@@ -109,9 +107,8 @@ pub fn until<T: Listed>(
 }
 
 /// Items in parentheses, with commas between.
-#[tactic(auto, unfolding(crate::specs::Reading::and_then, crate::specs::Reading::in_parentheses))]
 pub fn in_parentheses<T: Item>(alloc: Global, reader: &mut Reader<'_>) -> Result<List<T>, Fault>
-    ensures { Gives (spec.in_parentheses T.reading reader.old) result reader.new }
+    ensures { Gives (spec.in_parentheses T.parser reader.old) result reader.new }
 {
     reader.mark(Mark::OpenParen)?;
     if reader.sees_mark(Mark::CloseParen) {

@@ -1,13 +1,12 @@
 ghost use Rattle.std.specs.Prelude.{◌≡◌};
 ghost use Rattle.rsml_parser.specs.Mentions as spec;
-ghost use Rattle.rsml_parser.specs.Reading.{Gives};
+ghost use Rattle.rsml_parser.specs.Parsers.{Gives};
 
 use crate::list::Item;
 use crate::reader::{Fault, Reader};
 use rsml_syntax::{Amount, Index, Initial, Mark, Mention, Signed, Text, Word};
 use std::alloc::Global;
 
-#[tactic(auto, unfolding(crate::specs::Reading::and_then, crate::specs::Mentions::minus))]
 pub fn minus(reader: &mut Reader<'_>) -> Result<bool, Fault>
     ensures { Gives (spec.minus reader.old) result reader.new }
 {
@@ -18,7 +17,6 @@ pub fn minus(reader: &mut Reader<'_>) -> Result<bool, Fault>
     Ok(false)
 }
 
-#[tactic(auto, unfolding(crate::specs::Reading::and_then, crate::specs::Mentions::signed))]
 pub fn signed(reader: &mut Reader<'_>) -> Result<Signed, Fault>
     ensures { Gives (spec.signed reader.old) result reader.new }
 {
@@ -27,7 +25,6 @@ pub fn signed(reader: &mut Reader<'_>) -> Result<Signed, Fault>
     Ok(Signed { minus, digits })
 }
 
-#[tactic(auto, unfolding(crate::specs::Reading::and_then, crate::specs::Mentions::amount))]
 pub fn amount(alloc: Global, reader: &mut Reader<'_>) -> Result<Amount, Fault>
     ensures { Gives (spec.amount reader.old) result reader.new }
 {
@@ -39,7 +36,6 @@ pub fn amount(alloc: Global, reader: &mut Reader<'_>) -> Result<Amount, Fault>
     Ok(Amount::Name(name))
 }
 
-#[tactic(auto, unfolding(crate::specs::Reading::and_then, crate::specs::Mentions::bracketed_amount))]
 pub fn bracketed_amount(alloc: Global, reader: &mut Reader<'_>) -> Result<Amount, Fault>
     ensures { Gives (spec.bracketed_amount reader.old) result reader.new }
 {
@@ -49,7 +45,6 @@ pub fn bracketed_amount(alloc: Global, reader: &mut Reader<'_>) -> Result<Amount
     Ok(amount)
 }
 
-#[tactic(auto, unfolding(crate::specs::Reading::and_then, crate::specs::Mentions::size))]
 pub fn size(alloc: Global, reader: &mut Reader<'_>) -> Result<Option<Amount>, Fault>
     ensures { Gives (spec.size reader.old) result reader.new }
 {
@@ -60,7 +55,6 @@ pub fn size(alloc: Global, reader: &mut Reader<'_>) -> Result<Option<Amount>, Fa
     Ok(None)
 }
 
-#[tactic(auto, unfolding(crate::specs::Reading::and_then, crate::specs::Mentions::index))]
 fn index(alloc: Global, reader: &mut Reader<'_>) -> Result<Index, Fault>
     ensures { Gives (spec.index reader.old) result reader.new }
 {
@@ -76,7 +70,6 @@ fn index(alloc: Global, reader: &mut Reader<'_>) -> Result<Index, Fault>
     Ok(Index::This)
 }
 
-#[tactic(auto, unfolding(crate::specs::Reading::and_then, crate::specs::Mentions::bracketed_index))]
 fn bracketed_index(alloc: Global, reader: &mut Reader<'_>) -> Result<Index, Fault>
     ensures { Gives (spec.bracketed_index reader.old) result reader.new }
 {
@@ -86,7 +79,6 @@ fn bracketed_index(alloc: Global, reader: &mut Reader<'_>) -> Result<Index, Faul
     Ok(index)
 }
 
-#[tactic(auto, unfolding(crate::specs::Reading::and_then, crate::specs::Mentions::indexed))]
 fn indexed(alloc: Global, reader: &mut Reader<'_>) -> Result<Option<Index>, Fault>
     ensures { Gives (spec.indexed reader.old) result reader.new }
 {
@@ -97,7 +89,6 @@ fn indexed(alloc: Global, reader: &mut Reader<'_>) -> Result<Option<Index>, Faul
     Ok(None)
 }
 
-#[tactic(auto, unfolding(crate::specs::Reading::and_then, crate::specs::Mentions::mention))]
 pub fn mention(alloc: Global, reader: &mut Reader<'_>) -> Result<Mention, Fault>
     ensures { Gives (spec.mention reader.old) result reader.new }
 {
@@ -106,7 +97,6 @@ pub fn mention(alloc: Global, reader: &mut Reader<'_>) -> Result<Mention, Fault>
     Ok(Mention { name, index })
 }
 
-#[tactic(auto, unfolding(crate::specs::Reading::and_then, crate::specs::Mentions::initial))]
 pub fn initial(alloc: Global, reader: &mut Reader<'_>) -> Result<Initial, Fault>
     ensures { Gives (spec.initial reader.old) result reader.new }
 {
@@ -119,9 +109,9 @@ pub fn initial(alloc: Global, reader: &mut Reader<'_>) -> Result<Initial, Fault>
 }
 
 impl Item for Text {
-    ghost use Rattle.rsml_parser.specs.Reading as reading;
+    ghost use Rattle.rsml_parser.specs.Parsers as parsers;
 
-    ghost reading = { reading.name };
+    ghost parser = { parsers.name };
 
     fn read(alloc: Global, reader: &mut Reader<'_>) -> Result<Text, Fault> {
         reader.name(alloc)
@@ -129,7 +119,7 @@ impl Item for Text {
 }
 
 impl Item for Mention {
-    ghost reading = { spec.mention };
+    ghost parser = { spec.mention };
 
     fn read(alloc: Global, reader: &mut Reader<'_>) -> Result<Mention, Fault> {
         mention(alloc, reader)

@@ -1,6 +1,6 @@
 ghost use Rattle.std.specs.Prelude.{◌≡◌};
 ghost use Rattle.rsml_parser.specs.Phrases as spec;
-ghost use Rattle.rsml_parser.specs.Reading.{Gives};
+ghost use Rattle.rsml_parser.specs.Parsers.{Gives};
 
 use crate::list::separated;
 use crate::mentions::{amount, mention};
@@ -9,7 +9,6 @@ use crate::sums::{relation, sum};
 use rsml_syntax::{Amount, Mark, Phrase, Simple, Text, Word};
 use std::alloc::Global;
 
-#[tactic(auto, unfolding(crate::specs::Reading::and_then, crate::specs::Phrases::path))]
 fn path(alloc: Global, reader: &mut Reader<'_>) -> Result<Simple, Fault>
     ensures { Gives (spec.path reader.old) result reader.new }
 {
@@ -18,7 +17,6 @@ fn path(alloc: Global, reader: &mut Reader<'_>) -> Result<Simple, Fault>
     Ok(Simple::In(path))
 }
 
-#[tactic(auto, unfolding(crate::specs::Reading::and_then, crate::specs::Phrases::of_macro))]
 fn of_macro(alloc: Global, reader: &mut Reader<'_>) -> Result<Simple, Fault>
     ensures { Gives (spec.of_macro reader.old) result reader.new }
 {
@@ -27,7 +25,6 @@ fn of_macro(alloc: Global, reader: &mut Reader<'_>) -> Result<Simple, Fault>
     Ok(Simple::Macro(mention))
 }
 
-#[tactic(auto, unfolding(crate::specs::Reading::and_then, crate::specs::Phrases::of_function))]
 fn of_function(alloc: Global, reader: &mut Reader<'_>) -> Result<Simple, Fault>
     ensures { Gives (spec.of_function reader.old) result reader.new }
 {
@@ -42,7 +39,6 @@ fn of_function(alloc: Global, reader: &mut Reader<'_>) -> Result<Simple, Fault>
     })
 }
 
-#[tactic(auto, unfolding(crate::specs::Reading::and_then, crate::specs::Phrases::comparison))]
 fn comparison(alloc: Global, reader: &mut Reader<'_>) -> Result<Simple, Fault>
     ensures { Gives (spec.comparison reader.old) result reader.new }
 {
@@ -56,7 +52,6 @@ fn comparison(alloc: Global, reader: &mut Reader<'_>) -> Result<Simple, Fault>
     })
 }
 
-#[tactic(auto, unfolding(crate::specs::Phrases::simple))]
 fn simple(alloc: Global, reader: &mut Reader<'_>) -> Result<Simple, Fault>
     ensures { Gives (spec.simple reader.old) result reader.new }
 {
@@ -73,7 +68,6 @@ fn simple(alloc: Global, reader: &mut Reader<'_>) -> Result<Simple, Fault>
 }
 
 /// The variable, the bound and the body of a quantified phrase, after the quantifier.
-#[tactic(auto, unfolding(crate::specs::Reading::and_then, crate::specs::Phrases::quantified))]
 fn quantified(alloc: Global, reader: &mut Reader<'_>) -> Result<(Text, Amount, Simple), Fault>
     ensures { Gives (spec.quantified reader.old) result reader.new }
 {
@@ -85,7 +79,6 @@ fn quantified(alloc: Global, reader: &mut Reader<'_>) -> Result<(Text, Amount, S
     Ok((variable, bound, body))
 }
 
-#[tactic(auto, unfolding(crate::specs::Reading::and_then, crate::specs::Phrases::phrase))]
 pub fn phrase(alloc: Global, reader: &mut Reader<'_>) -> Result<Phrase, Fault>
     ensures { Gives (spec.phrase reader.old) result reader.new }
 {

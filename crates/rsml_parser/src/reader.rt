@@ -1,7 +1,7 @@
 ghost use Rattle.std.specs.Prelude.{◌≡◌, ◌<◌, length, OnOk};
 ghost use Rattle.std.specs.Option.{option_copied};
-ghost use Rattle.rsml_parser.specs.Reading as spec;
-ghost use Rattle.rsml_parser.specs.Reading.{Gives};
+ghost use Rattle.rsml_parser.specs.Parsers as spec;
+ghost use Rattle.rsml_parser.specs.Parsers.{Gives};
 
 use rsml_syntax::{Mark, NoMemory, Placed, Text, Token, Word};
 use std::alloc::Global;
@@ -36,7 +36,7 @@ pub struct Reader<'a> {
 impl<'a> Model for Reader<'a> {
     ghost use Rattle.std.specs.Prelude.{List};
     ghost use Rattle.rsml_syntax.specs.declared.token.Token.{Token};
-    ghost use Rattle.rsml_syntax.specs.Lexing.{bare};
+    ghost use Rattle.rsml_syntax.specs.text.Lexing.{bare};
 
     ghost Value = { List Token };
 
@@ -44,7 +44,7 @@ impl<'a> Model for Reader<'a> {
 }
 
 impl<'a> Reader<'a> {
-    ghost use Rattle.rsml_syntax.specs.Lexing.{bare};
+    ghost use Rattle.rsml_syntax.specs.text.Lexing.{bare};
 
     pub fn new(rest: &'a [Placed]) -> Reader<'a>
         ensures { result ≡ bare rest.now }
@@ -145,7 +145,7 @@ impl<'a> Reader<'a> {
         }
     }
 
-    #[tactic(auto, unfolding(crate::specs::Reading::word))]
+    #[tactic(auto, unfolding(crate::specs::Parsers::word))]
     pub fn word(&mut self, word: Word) -> Result<(), Fault>
         ensures { Gives (spec.word word self.old) result self.new }
     {
@@ -157,7 +157,7 @@ impl<'a> Reader<'a> {
         }
     }
 
-    #[tactic(auto, unfolding(crate::specs::Reading::mark))]
+    #[tactic(auto, unfolding(crate::specs::Parsers::mark))]
     pub fn mark(&mut self, mark: Mark) -> Result<(), Fault>
         ensures { Gives (spec.mark mark self.old) result self.new }
     {
@@ -170,7 +170,7 @@ impl<'a> Reader<'a> {
     }
 
     /// Ok where no token is left.
-    #[tactic(auto, unfolding(crate::specs::Reading::end))]
+    #[tactic(auto, unfolding(crate::specs::Parsers::end))]
     pub fn end(&self) -> Result<(), Fault>
         ensures { Gives (spec.end self.now) result self.now }
     {
@@ -182,7 +182,7 @@ impl<'a> Reader<'a> {
     }
 
     fn next_name(&self) -> Option<&'a Text>
-        ensures { option_copied result ≡ spec.of_first spec.name_of self.now }
+        ensures { option_copied result ≡ spec.of_first spec.seen_name self.now }
     {
         match self.rest {
             [
@@ -196,7 +196,7 @@ impl<'a> Reader<'a> {
         }
     }
 
-    #[tactic(auto, unfolding(crate::specs::Reading::name))]
+    #[tactic(auto, unfolding(crate::specs::Parsers::name))]
     pub fn name(&mut self, alloc: Global) -> Result<Text, Fault>
         ensures { Gives (spec.name self.old) result self.new }
     {
@@ -211,7 +211,7 @@ impl<'a> Reader<'a> {
     }
 
     fn next_number(&self) -> Option<u32>
-        ensures { result ≡ spec.of_first spec.number_of self.now }
+        ensures { result ≡ spec.of_first spec.seen_number self.now }
     {
         match self.rest {
             [
@@ -225,7 +225,7 @@ impl<'a> Reader<'a> {
         }
     }
 
-    #[tactic(auto, unfolding(crate::specs::Reading::number))]
+    #[tactic(auto, unfolding(crate::specs::Parsers::number))]
     pub fn number(&mut self) -> Result<u32, Fault>
         ensures { Gives (spec.number self.old) result self.new }
     {

@@ -1,11 +1,12 @@
 ghost use Rattle.std.specs.Prelude.{◌≡◌, ℕ, ◌≤◌, length, IfOk};
-ghost use Rattle.rsml_parser.specs.Answers.{Answers, answer, place_of, room};
-ghost use Rattle.rsml_parser.specs.Reading as reading;
-ghost use Rattle.rsml_parser.specs.Reading.{Gives};
+ghost use Rattle.rsml_parser.specs.Answers.{Answers, answer, token_place, room};
+ghost use Rattle.rsml_parser.specs.Parsers as parsers;
+ghost use Rattle.rsml_parser.specs.Parsers.{Gives};
 ghost use Rattle.rsml_parser.specs.States as spec;
-ghost use Rattle.rsml_syntax.specs.Lexing.{bare};
-ghost use Rattle.rsml_syntax.specs.Places.{IsTokensOf, IsSyntaxFault, IsDepthPlace};
-ghost use Rattle.rsml_syntax.specs.Tokens.{AreTokens};
+ghost use Rattle.rsml_parser.specs.declared.specification.TheConstants.{MOST_TOKENS};
+ghost use Rattle.rsml_syntax.specs.text.Lexing.{bare};
+ghost use Rattle.rsml_syntax.specs.grammar.Places.{IsTokensOf, IsSyntaxFault, IsDepthPlace};
+ghost use Rattle.rsml_syntax.specs.text.Tokens.{AreTokens};
 ghost use Rattle.rsml_syntax.specs.declared.edition.Edition.TheVariants as editions;
 ghost use Rattle.rsml_syntax.specs.declared.syntax.Spec.{Spec as Tree};
 
@@ -17,13 +18,16 @@ use crate::states::body;
 use rsml_syntax::{Decl, Mark, Placed, Spec, Word};
 use std::alloc::Global;
 
+/// How many tokens there may be.
+pub const MOST_TOKENS: usize = 1_048_576;
+
 /// How many states may be nested in the top state.
 const ROOM: usize = 15;
 
 impl Item for Decl {
     ghost use Rattle.rsml_parser.specs.Declarations.{declaration};
 
-    ghost reading = { declaration };
+    ghost parser = { declaration };
 
     fn read(alloc: Global, reader: &mut Reader<'_>) -> Result<Decl, Fault> {
         declaration(alloc, reader)
@@ -38,7 +42,6 @@ impl Listed for Decl {
     }
 }
 
-#[tactic(auto, unfolding(crate::specs::Reading::and_then, crate::specs::States::specification))]
 fn specification(alloc: Global, reader: &mut Reader<'_>) -> Result<Spec, Fault>
     ensures { Gives (spec.specification room reader.old) result reader.new }
 {
@@ -58,7 +61,7 @@ fn specification(alloc: Global, reader: &mut Reader<'_>) -> Result<Spec, Fault>
 }
 
 /// A specification that is all of the tokens.
-#[tactic(auto, unfolding(crate::specs::Reading::and_then, crate::specs::States::whole))]
+#[tactic(auto, unfolding(crate::specs::Parsers::and_then, crate::specs::States::whole))]
 fn whole(alloc: Global, reader: &mut Reader<'_>) -> Result<Spec, Fault>
     ensures { Gives (spec.whole room reader.old) result reader.new }
 {
@@ -70,9 +73,9 @@ fn whole(alloc: Global, reader: &mut Reader<'_>) -> Result<Spec, Fault>
 /// The place of the first token that is left, counted from 1.
 #[tactic(auto, using(crate::proofs::CodeLemmas::length_bare))]
 fn place(tokens: &[Placed], reader: &Reader<'_>) -> u32
-    requires few { length tokens.now ≤ 1048576 }
+    requires few { length tokens.now ≤ MOST_TOKENS }
     requires left { length reader.now ≤ length tokens.now }
-    ensures { result ≡ place_of (bare tokens.now) reader.now }
+    ensures { result ≡ token_place (bare tokens.now) reader.now }
 {
     (tokens.len() - reader.left() + 1) as u32
 }
@@ -80,7 +83,7 @@ fn place(tokens: &[Placed], reader: &Reader<'_>) -> u32
 /// What reading all of the tokens gives, with the place of the fault.
 #[tactic(auto, using(crate::proofs::CodeLemmas::length_bare, crate::proofs::CodeLemmas::left_within))]
 pub fn read_tokens(alloc: Global, tokens: &[Placed]) -> Result<Spec, ParseError>
-    requires { length tokens.now ≤ 1048576 }
+    requires { length tokens.now ≤ MOST_TOKENS }
     ensures { Answers result (answer (bare tokens.now) (spec.whole room (bare tokens.now))) }
 {
     let mut reader = Reader::new(tokens);
@@ -99,7 +102,7 @@ pub fn read_tokens(alloc: Global, tokens: &[Placed]) -> Result<Spec, ParseError>
 /// The specification that the tokens are, which nests at most 16 states. Else the first fault: where tokens stop
 /// beginning a specification, unless a state opens inside 16 others before.
 pub fn parse(alloc: Global, tokens: &[Placed]) -> Result<Spec, ParseError>
-    requires few { length tokens.now ≤ 1048576 }
+    requires few { length tokens.now ≤ MOST_TOKENS }
     requires fit { AreTokens editions.Second (bare tokens.now) }
     ensures ok { IfOk result (λ s. IsTokensOf (bare tokens.now) s) }
     ensures only { (s : Tree) → IsTokensOf (bare tokens.now) s → Answers result (Ok s) }

@@ -1,8 +1,8 @@
 ghost use Rattle.std.specs.Prelude.{◌≡◌};
-ghost use Rattle.rsml_parser.specs.Reading as reading;
-ghost use Rattle.rsml_parser.specs.Reading.{Gives};
+ghost use Rattle.rsml_parser.specs.Parsers as parsers;
+ghost use Rattle.rsml_parser.specs.Parsers.{Gives};
 ghost use Rattle.rsml_parser.specs.States as spec;
-ghost use Rattle.rsml_syntax.specs.Layout.{is_the_word};
+ghost use Rattle.rsml_syntax.specs.grammar.Layout.{is_the_word};
 ghost use Rattle.rsml_syntax.specs.declared.token.Mark.TheVariants as marks;
 ghost use Rattle.rsml_syntax.specs.declared.token.Word.TheVariants as words;
 
@@ -13,7 +13,6 @@ use crate::tables::when_guard;
 use rsml_syntax::{Body, Bus, List, Mark, Mention, StateDecl, Text, Transition, Word};
 use std::alloc::Global;
 
-#[tactic(auto, unfolding(crate::specs::Reading::and_then, crate::specs::States::bus))]
 fn bus(alloc: Global, reader: &mut Reader<'_>) -> Result<Bus, Fault>
     ensures { Gives (spec.bus reader.old) result reader.new }
 {
@@ -26,7 +25,7 @@ fn bus(alloc: Global, reader: &mut Reader<'_>) -> Result<Bus, Fault>
 }
 
 impl Item for Bus {
-    ghost reading = { spec.bus };
+    ghost parser = { spec.bus };
 
     fn read(alloc: Global, reader: &mut Reader<'_>) -> Result<Bus, Fault> {
         bus(alloc, reader)
@@ -42,7 +41,6 @@ impl Listed for Bus {
 }
 
 /// The source of a transition, and its target if it has one.
-#[tactic(auto, unfolding(crate::specs::Reading::and_then, crate::specs::States::movement))]
 fn movement(alloc: Global, reader: &mut Reader<'_>) -> Result<(Text, Option<List<Text>>), Fault>
     ensures { Gives (spec.movement reader.old) result reader.new }
 {
@@ -58,7 +56,6 @@ fn movement(alloc: Global, reader: &mut Reader<'_>) -> Result<(Text, Option<List
     Ok((source, None))
 }
 
-#[tactic(auto, unfolding(crate::specs::Reading::and_then, crate::specs::States::raises))]
 fn raises(alloc: Global, reader: &mut Reader<'_>) -> Result<List<Mention>, Fault>
     ensures { Gives (spec.raises reader.old) result reader.new }
 {
@@ -69,7 +66,6 @@ fn raises(alloc: Global, reader: &mut Reader<'_>) -> Result<List<Mention>, Fault
     Ok(List::new(alloc))
 }
 
-#[tactic(auto, unfolding(crate::specs::Reading::and_then, crate::specs::States::transition))]
 fn transition(alloc: Global, reader: &mut Reader<'_>) -> Result<Transition, Fault>
     ensures { Gives (spec.transition reader.old) result reader.new }
 {
@@ -89,7 +85,7 @@ fn transition(alloc: Global, reader: &mut Reader<'_>) -> Result<Transition, Faul
 }
 
 impl Item for Transition {
-    ghost reading = { spec.transition };
+    ghost parser = { spec.transition };
 
     fn read(alloc: Global, reader: &mut Reader<'_>) -> Result<Transition, Fault> {
         transition(alloc, reader)
@@ -97,7 +93,7 @@ impl Item for Transition {
 }
 
 impl Listed for Transition {
-    ghost begins = { reading.is_not marks.CloseBrace };
+    ghost begins = { parsers.is_not marks.CloseBrace };
 
     fn begins(reader: &Reader<'_>) -> bool {
         reader.goes_on(Mark::CloseBrace)
@@ -106,14 +102,13 @@ impl Listed for Transition {
 
 /// Whether a state opens here.
 fn opens_state(reader: &Reader<'_>) -> bool
-    ensures { result ≡ reading.first spec.opens_state reader.now }
+    ensures { result ≡ parsers.first spec.opens_state reader.now }
 {
     reader.sees_word(Word::State) || reader.sees_word(Word::Array)
 }
 
 /// A body, in which at most so many states may be nested.
 #[cycle(body)]
-#[tactic(auto, unfolding(crate::specs::Reading::and_then, crate::specs::States::body, crate::specs::States::body_of))]
 pub fn body(alloc: Global, reader: &mut Reader<'_>, room: usize) -> Result<Body, Fault>
     ensures { Gives (spec.body room reader.old) result reader.new }
 {
@@ -128,7 +123,6 @@ pub fn body(alloc: Global, reader: &mut Reader<'_>, room: usize) -> Result<Body,
 }
 
 #[cycle(body)]
-#[tactic(auto, unfolding(crate::specs::Reading::and_then, crate::specs::States::one_of))]
 fn one_of(alloc: Global, reader: &mut Reader<'_>, room: usize) -> Result<Body, Fault>
     ensures { Gives (spec.one_of (spec.children room) reader.old) result reader.new }
 {
@@ -149,7 +143,6 @@ fn one_of(alloc: Global, reader: &mut Reader<'_>, room: usize) -> Result<Body, F
 }
 
 #[cycle(body)]
-#[tactic(auto, unfolding(crate::specs::Reading::and_then, crate::specs::States::all_of))]
 fn all_of(alloc: Global, reader: &mut Reader<'_>, room: usize) -> Result<Body, Fault>
     ensures { Gives (spec.all_of (spec.children room) reader.old) result reader.new }
 {
@@ -161,7 +154,6 @@ fn all_of(alloc: Global, reader: &mut Reader<'_>, room: usize) -> Result<Body, F
 }
 
 /// Children, where no state may open.
-#[tactic(auto, unfolding(crate::specs::States::no_children))]
 fn no_children(alloc: Global, reader: &mut Reader<'_>) -> Result<List<StateDecl>, Fault>
     ensures { Gives (spec.no_children reader.old) result reader.new }
 {
@@ -172,8 +164,8 @@ fn no_children(alloc: Global, reader: &mut Reader<'_>) -> Result<List<StateDecl>
 }
 
 /// Children, in which at most so many states may be nested.
-#[cycle(body)]
 #[tactic(auto, unfolding(crate::specs::States::children))]
+#[cycle(body)]
 fn children(alloc: Global, reader: &mut Reader<'_>, room: usize) -> Result<List<StateDecl>, Fault>
     ensures { Gives (spec.children room reader.old) result reader.new }
 {
@@ -190,7 +182,7 @@ fn some_children(
     reader: &mut Reader<'_>,
     room: usize,
 ) -> Result<List<StateDecl>, Fault>
-    ensures { let children = reading.many (reading.first spec.opens_state) (spec.child (spec.body room)) in
+    ensures { let children = parsers.many (parsers.first spec.opens_state) (spec.child (spec.body room)) in
         Gives (children reader.old) result reader.new }
 {
     let mut found = List::new(alloc);
@@ -207,7 +199,6 @@ fn some_children(
 }
 
 #[cycle(body)]
-#[tactic(auto, unfolding(crate::specs::States::child))]
 fn child(alloc: Global, reader: &mut Reader<'_>, room: usize) -> Result<StateDecl, Fault>
     ensures { Gives (spec.child (spec.body room) reader.old) result reader.new }
 {
@@ -218,7 +209,6 @@ fn child(alloc: Global, reader: &mut Reader<'_>, room: usize) -> Result<StateDec
 }
 
 #[cycle(body)]
-#[tactic(auto, unfolding(crate::specs::Reading::and_then, crate::specs::States::array_of_states))]
 fn array_of_states(alloc: Global, reader: &mut Reader<'_>, room: usize) -> Result<StateDecl, Fault>
     ensures { Gives (spec.array_of_states (spec.body room) reader.old) result reader.new }
 {
@@ -234,7 +224,6 @@ fn array_of_states(alloc: Global, reader: &mut Reader<'_>, room: usize) -> Resul
 }
 
 #[cycle(body)]
-#[tactic(auto, unfolding(crate::specs::Reading::and_then, crate::specs::States::plain_state))]
 fn plain_state(alloc: Global, reader: &mut Reader<'_>, room: usize) -> Result<StateDecl, Fault>
     ensures { Gives (spec.plain_state (spec.body room) reader.old) result reader.new }
 {

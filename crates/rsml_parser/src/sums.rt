@@ -1,6 +1,6 @@
 ghost use Rattle.std.specs.Prelude.{◌≡◌};
-ghost use Rattle.rsml_parser.specs.Reading as reading;
-ghost use Rattle.rsml_parser.specs.Reading.{Gives};
+ghost use Rattle.rsml_parser.specs.Parsers as parsers;
+ghost use Rattle.rsml_parser.specs.Parsers.{Gives};
 ghost use Rattle.rsml_parser.specs.Sums as spec;
 
 use crate::list::{Item, Listed, many_after};
@@ -9,7 +9,6 @@ use crate::reader::{Fault, Reader};
 use rsml_syntax::{Mark, Operand, Relation, Sum, Term, Word};
 use std::alloc::Global;
 
-#[tactic(auto, unfolding(crate::specs::Reading::and_then, crate::specs::Sums::operand))]
 fn operand(alloc: Global, reader: &mut Reader<'_>) -> Result<Operand, Fault>
     ensures { Gives (spec.operand reader.old) result reader.new }
 {
@@ -26,7 +25,6 @@ fn operand(alloc: Global, reader: &mut Reader<'_>) -> Result<Operand, Fault>
     Ok(Operand::Mention(mention))
 }
 
-#[tactic(auto, unfolding(crate::specs::Reading::and_then, crate::specs::Sums::first_term))]
 fn first_term(alloc: Global, reader: &mut Reader<'_>) -> Result<Term, Fault>
     ensures { Gives (spec.first_term reader.old) result reader.new }
 {
@@ -36,7 +34,6 @@ fn first_term(alloc: Global, reader: &mut Reader<'_>) -> Result<Term, Fault>
 }
 
 /// Whether a sign is a minus.
-#[tactic(auto, unfolding(crate::specs::Reading::and_then, crate::specs::Sums::sign))]
 fn sign(reader: &mut Reader<'_>) -> Result<bool, Fault>
     ensures { Gives (spec.sign reader.old) result reader.new }
 {
@@ -50,9 +47,8 @@ fn sign(reader: &mut Reader<'_>) -> Result<bool, Fault>
 
 /// Terms after the first.
 impl Item for Term {
-    ghost reading = { spec.later_term };
+    ghost parser = { spec.later_term };
 
-    #[tactic(auto, unfolding(crate::specs::Reading::and_then, crate::specs::Sums::later_term))]
     fn read(alloc: Global, reader: &mut Reader<'_>) -> Result<Term, Fault> {
         let minus = sign(reader)?;
         let operand = operand(alloc, reader)?;
@@ -68,7 +64,6 @@ impl Listed for Term {
     }
 }
 
-#[tactic(auto, unfolding(crate::specs::Reading::and_then, crate::specs::Sums::sum))]
 pub fn sum(alloc: Global, reader: &mut Reader<'_>) -> Result<Sum, Fault>
     ensures { Gives (spec.sum reader.old) result reader.new }
 {
@@ -77,7 +72,6 @@ pub fn sum(alloc: Global, reader: &mut Reader<'_>) -> Result<Sum, Fault>
     Ok(Sum { terms })
 }
 
-#[tactic(auto, unfolding(crate::specs::Reading::and_then, crate::specs::Sums::relation))]
 pub fn relation(reader: &mut Reader<'_>) -> Result<Relation, Fault>
     ensures { Gives (spec.relation reader.old) result reader.new }
 {

@@ -1,6 +1,6 @@
 ghost use Rattle.std.specs.Prelude.{◌≡◌};
-ghost use Rattle.rsml_parser.specs.Reading as reading;
-ghost use Rattle.rsml_parser.specs.Reading.{Gives};
+ghost use Rattle.rsml_parser.specs.Parsers as parsers;
+ghost use Rattle.rsml_parser.specs.Parsers.{Gives};
 ghost use Rattle.rsml_parser.specs.Tables as spec;
 ghost use Rattle.rsml_syntax.specs.declared.token.Mark.TheVariants as marks;
 
@@ -10,7 +10,6 @@ use crate::reader::{Fault, Reader};
 use rsml_syntax::{Cell, Guard, List, Mark, Row, Word};
 use std::alloc::Global;
 
-#[tactic(auto, unfolding(crate::specs::Reading::and_then, crate::specs::Tables::cell))]
 fn cell(reader: &mut Reader<'_>) -> Result<Cell, Fault>
     ensures { Gives (spec.cell reader.old) result reader.new }
 {
@@ -27,7 +26,7 @@ fn cell(reader: &mut Reader<'_>) -> Result<Cell, Fault>
 }
 
 impl Item for Cell {
-    ghost reading = { spec.cell };
+    ghost parser = { spec.cell };
 
     fn read(_alloc: Global, reader: &mut Reader<'_>) -> Result<Cell, Fault> {
         cell(reader)
@@ -35,14 +34,13 @@ impl Item for Cell {
 }
 
 impl Listed for Cell {
-    ghost begins = { reading.is_not marks.Semicolon };
+    ghost begins = { parsers.is_not marks.Semicolon };
 
     fn begins(reader: &Reader<'_>) -> bool {
         reader.goes_on(Mark::Semicolon)
     }
 }
 
-#[tactic(auto, unfolding(crate::specs::Reading::and_then, crate::specs::Tables::row))]
 fn row(alloc: Global, reader: &mut Reader<'_>) -> Result<Row, Fault>
     ensures { Gives (spec.row reader.old) result reader.new }
 {
@@ -53,7 +51,7 @@ fn row(alloc: Global, reader: &mut Reader<'_>) -> Result<Row, Fault>
 }
 
 impl Item for Row {
-    ghost reading = { spec.row };
+    ghost parser = { spec.row };
 
     fn read(alloc: Global, reader: &mut Reader<'_>) -> Result<Row, Fault> {
         row(alloc, reader)
@@ -61,14 +59,13 @@ impl Item for Row {
 }
 
 impl Listed for Row {
-    ghost begins = { reading.is_not marks.CloseBrace };
+    ghost begins = { parsers.is_not marks.CloseBrace };
 
     fn begins(reader: &Reader<'_>) -> bool {
         reader.goes_on(Mark::CloseBrace)
     }
 }
 
-#[tactic(auto, unfolding(crate::specs::Reading::and_then, crate::specs::Tables::table))]
 pub fn table(alloc: Global, reader: &mut Reader<'_>) -> Result<List<Row>, Fault>
     ensures { Gives (spec.table reader.old) result reader.new }
 {
@@ -76,7 +73,6 @@ pub fn table(alloc: Global, reader: &mut Reader<'_>) -> Result<List<Row>, Fault>
     until(alloc, reader, Mark::CloseBrace)
 }
 
-#[tactic(auto, unfolding(crate::specs::Reading::and_then, crate::specs::Tables::guard))]
 fn guard(alloc: Global, reader: &mut Reader<'_>) -> Result<Guard, Fault>
     ensures { Gives (spec.guard reader.old) result reader.new }
 {
@@ -88,7 +84,6 @@ fn guard(alloc: Global, reader: &mut Reader<'_>) -> Result<Guard, Fault>
     Ok(Guard::Table(rows))
 }
 
-#[tactic(auto, unfolding(crate::specs::Reading::and_then, crate::specs::Tables::when_guard))]
 pub fn when_guard(alloc: Global, reader: &mut Reader<'_>) -> Result<Guard, Fault>
     ensures { Gives (spec.when_guard reader.old) result reader.new }
 {

@@ -1,27 +1,29 @@
 ghost use Rattle.std.specs.Prelude.{◌≡◌, Err, IfOk, List, None, OnOk, Some, ℕ};
-ghost use Rattle.rsml_syntax.specs.Limits.{Keeps, over};
-ghost use Rattle.rsml_syntax.specs.Rules.{refused};
-ghost use Rattle.rsml_syntax.specs.WellFormed.{WellFormed};
+ghost use Rattle.rsml_syntax.specs.limits.Limits.{Keeps, over};
+ghost use Rattle.rsml_syntax.specs.rules.Rules.{broken_rule, name_tables};
+ghost use Rattle.rsml_syntax.specs.grammar.WellFormed.{WellFormed};
 ghost use Rattle.rsml_rules.specs.declared.error.RuleError.TheVariants as errors;
 
+use crate::breaches::lowest_breach;
 use crate::error::RuleError;
-use rsml_breaches::lowest_breach;
-use rsml_counts::lowest_over;
+use rsml_limits::lowest_over;
+use rsml_names::NameTables;
 use rsml_syntax::{Checked, Spec};
-use rsml_thresholds::thresholds_and_keys;
 use std::alloc::Global;
 
-/// The greatest number of thresholds and keys.
-const MOST_THRESHOLDS: u64 = 2048;
-
 /// Judges the rules alone.
-fn check_breaches(alloc: Global, spec: &Spec) -> Result<(), RuleError>
-    ensures kept { OnOk result (refused spec.now ≡ None) }
+fn check_breaches<'a>(
+    alloc: Global,
+    tables: &NameTables<'a>,
+    spec: &'a Spec,
+) -> Result<(), RuleError>
+    requires { tables.now ≡ name_tables spec.now }
+    ensures kept { OnOk result (broken_rule spec.now ≡ None) }
     ensures rule { (number : ℕ) → (name : List ℕ) → result ≡ Err (errors.Rule number name)
-        → refused spec.now ≡ Some (record { rule = number; shown = name }) }
+        → broken_rule spec.now ≡ Some (record { rule = number; shown = name }) }
     ensures no_limit { (number count : ℕ) → result ≡ Err (errors.Limit number count) → ⊥ }
 {
-    match lowest_breach(alloc, spec)? {
+    match lowest_breach(alloc, tables, spec)? {
         Some(breach) => Err(RuleError::Rule {
             number: breach.rule,
             name: breach.name,
@@ -31,23 +33,33 @@ fn check_breaches(alloc: Global, spec: &Spec) -> Result<(), RuleError>
 }
 
 /// Judges the limits alone.
-fn check_limits(alloc: Global, spec: &Spec) -> Result<(), RuleError>
+fn check_limits<'a>(alloc: Global, tables: &NameTables<'a>, spec: &'a Spec) -> Result<(), RuleError>
+    requires { tables.now ≡ name_tables spec.now }
     ensures kept { OnOk result (over spec.now ≡ None) }
     ensures limit { (number count : ℕ) → result ≡ Err (errors.Limit number count)
         → over spec.now ≡ Some (number, count) }
     ensures no_rule { (number : ℕ) → (name : List ℕ) → result ≡ Err (errors.Rule number name) → ⊥ }
 {
-    if let Some(over) = lowest_over(alloc, spec)? {
-        return Err(RuleError::Limit {
+    match lowest_over(alloc, &tables.globals, spec)? {
+        Some(over) => Err(RuleError::Limit {
             number: over.limit,
             count: over.count,
-        });
+        }),
+        None => Ok(()),
     }
-    let count = thresholds_and_keys(alloc, spec)?;
-    if MOST_THRESHOLDS < count {
-        return Err(RuleError::Limit { number: 7, count });
-    }
-    Ok(())
+}
+
+/// Judges the rules, and then the limits.
+fn judge(alloc: Global, spec: &Spec) -> Result<(), RuleError>
+    ensures kept { OnOk result (Keeps spec.now) }
+    ensures rule { (number : ℕ) → (name : List ℕ) → result ≡ Err (errors.Rule number name)
+        → broken_rule spec.now ≡ Some (record { rule = number; shown = name }) }
+    ensures limit { (number count : ℕ) → result ≡ Err (errors.Limit number count)
+        → (broken_rule spec.now ≡ None) × (over spec.now ≡ Some (number, count)) }
+{
+    let tables = NameTables::new(alloc, spec)?;
+    check_breaches(alloc, &tables, spec)?;
+    check_limits(alloc, &tables, spec)
 }
 
 /// Judges the rules and the limits. A specification that keeps them is given back as checked; else
@@ -57,11 +69,10 @@ pub fn check_rules(alloc: Global, spec: Spec) -> Result<Checked, RuleError>
     ensures ok { IfOk result (λ checked. checked ≡ spec) }
     ensures kept { OnOk result (Keeps spec) }
     ensures rule { (number : ℕ) → (name : List ℕ) → result ≡ Err (errors.Rule number name)
-        → refused spec ≡ Some (record { rule = number; shown = name }) }
+        → broken_rule spec ≡ Some (record { rule = number; shown = name }) }
     ensures limit { (number count : ℕ) → result ≡ Err (errors.Limit number count)
-        → (refused spec ≡ None) × (over spec ≡ Some (number, count)) }
+        → (broken_rule spec ≡ None) × (over spec ≡ Some (number, count)) }
 {
-    check_breaches(alloc, &spec)?;
-    check_limits(alloc, &spec)?;
+    judge(alloc, &spec)?;
     Ok(Checked::new(spec))
 }

@@ -1,6 +1,7 @@
 //! The rules S1 to S16 and the limits L1 to L7 of a specification.
 #![tactic(auto)]
 
+mod breaches;
 mod checking;
 mod error;
 

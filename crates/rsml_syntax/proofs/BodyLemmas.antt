@@ -8,15 +8,15 @@ use Rattle.rsml_syntax.specs.declared.syntax.Transition.{Transition}
 use Rattle.rsml_syntax.specs.declared.syntax.Body.{Body, One, One', All, All', Row_of-StateDecl, end_of-StateDecl, more_of-StateDecl, items-the_row-StateDecl, items_hidden-the_row-StateDecl-0}
 use Rattle.rsml_syntax.specs.declared.token.Word.TheVariants as words
 use Rattle.rsml_syntax.specs.declared.token.Mark.TheVariants as marks
-use Rattle.rsml_syntax.specs.Grammar.{word, mark, name, size, each, bus, transition, opening, body, children_row, state}
-use Rattle.rsml_syntax.specs.Names.{Name}
+use Rattle.rsml_syntax.specs.grammar.Grammar.{word, mark, name, size, each, bus, transition, state_word, body, children_row, state}
+use Rattle.rsml_syntax.specs.text.Names.{Name}
 use Rattle.rsml_syntax.specs.declared.printing.printer.Printer.{Printer}
-use Rattle.rsml_syntax.specs.Printing.{Writes, with_tokens}
-use Rattle.rsml_syntax.specs.Tokens.{Tokens}
+use Rattle.rsml_syntax.specs.helpers.Printing.{Writes, with_tokens}
+use Rattle.rsml_syntax.specs.text.Tokens.{Tokens}
 
 row_is_list : (n : _) (row : Row_of-StateDecl n) (rest : Tokens) → children_row row rest ≡ each state (items-the_row-StateDecl n row) rest
 row_is_list n end_of-StateDecl rest = refl
-row_is_list n (more_of-StateDecl a z b others) rest = ap (λ r. word (opening z) (name a (size z (body b r)))) (row_is_list _ others rest)
+row_is_list n (more_of-StateDecl a z b others) rest = ap (λ r. word (state_word z) (name a (size z (body b r)))) (row_is_list _ others rest)
 
 abbrev row_of : Body → (n : Count) × Row_of-StateDecl n
 row_of (One' f _ row bs ts) = (_, row)

@@ -1,14 +1,15 @@
 -- Which characters exclude each other, and how characters at a front split off.
-use Rattle.std.proofs.Common.{◌≡◌, ℕ, ◌<◌, ◌≤◌, Bool, true, false, ◌||◌, ◌&&◌, ◌==◌, ◌⊎◌, inl, inr, List, [], ◌∷◌, ◌++◌, refl, sym, ap, ◌∙◌, subst, arith}
-use Rattle.std.specs.Prelude.{if◌then◌else◌, IsTrue, IsFalse}
+use Rattle.std.proofs.Common.{◌≡◌, ℕ, ◌<◌, Bool, true, false, ◌||◌, ◌&&◌, ◌==◌, ◌⊎◌, inl, inr, List, [], ◌∷◌, ◌++◌, refl, sym, ap, ◌∙◌, subst, arith}
+use Rattle.std.specs.Prelude.{if◌then◌else◌}
 use Rattle.std.specs.List.{list_all}
 use Rattle.std.proofs.lemmas.Bool.{cases_lt}
 use Rattle.std.proofs.lemmas.Bool.Decides.{nat_tests}
-use Rattle.unicode_ident.specs.Ident.{is_xid_start, is_xid_continue}
+use Rattle.unicode_ident.specs.Ident.{is_xid_start}
 use Rattle.unicode_ident.proofs.IdentLemmas.{is_xid_start-ascii, is_xid_continue-ascii, is_xid_start-is_xid_continue}
-use Rattle.rsml_syntax.specs.Characters.{is_white, are_blanks, is_comment, begins_blanks, is_start, is_continuing, is_digit, digits_at}
-use Rattle.rsml_syntax.specs.Scanning.{after_blanks, after_comment, passing, after_passing}
-use Rattle.rsml_syntax.specs.Tokens.{first_is}
+use Rattle.rsml_syntax.specs.text.Characters.{is_white, are_blanks, is_comment, begins_blanks, is_start, is_continuing, is_digit}
+use Rattle.rsml_syntax.specs.text.Characters.{passing}
+use Rattle.rsml_syntax.specs.helpers.Scanning.{after_blanks, after_comment, after_passing}
+use Rattle.rsml_syntax.specs.text.Tokens.{first_is}
 
 -- either side of an `||`
 pub either : (a b : Bool) → (a || b) ≡ true → (a ≡ true) ⊎ (b ≡ true)
@@ -82,10 +83,6 @@ split_again test (c ∷ front) rest all stop =
     let h = both (test c) (list_all test front) all in
     let r = split_again test front rest h.1 stop in
     (rw h.0 (ap (λ l. c ∷ l) r.0), rw h.0 r.1)
-
-pub digits_split : (cs : List ℕ) → digits_at cs ≡ passing is_digit cs
-digits_split [] = refl
-digits_split (c ∷ cs) = ap (λ l. if is_digit c then c ∷ l else []) (digits_split cs)
 
 -- blanks before other characters
 mutual

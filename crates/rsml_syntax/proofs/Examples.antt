@@ -1,11 +1,12 @@
 mod Demo
+mod Depth
 mod Indices
 mod Kinds
 mod Limits
 mod ManyThresholds
 mod Names
 mod Places
-mod Refused
+mod Broken
 mod States
 mod Systems
 mod Texts

@@ -1,5 +1,5 @@
 -- What stands at the front of characters is a token, by its definition, or else none.
-use Rattle.std.proofs.Common.{◌≡◌, ℕ, ◌<◌, ◌≤◌, Bool, true, false, not, ◌||◌, ◌&&◌, ◌==◌, List, [], ◌∷◌, ◌++◌, length, drop, Option, Some, None, nat_le, refl, sym, ap, ◌∙◌, subst, arith}
+use Rattle.std.proofs.Common.{◌≡◌, ℕ, ◌<◌, ◌≤◌, Bool, true, false, not, ◌||◌, List, [], ◌∷◌, ◌++◌, length, Option, Some, None, nat_le, refl, sym, ap, ◌∙◌, subst, arith}
 use Rattle.std.specs.Prelude.{if◌then◌else◌}
 use Rattle.std.specs.List.{list_all}
 use Rattle.std.specs.Str.{encode_utf8_all}
@@ -10,14 +10,15 @@ use Rattle.rsml_syntax.specs.declared.token.Mark.{Mark}
 use Rattle.rsml_syntax.specs.declared.token.Word.{Word}
 use Rattle.rsml_syntax.specs.declared.token.Token.{Token}
 use Rattle.rsml_syntax.specs.declared.token.Token.TheVariants as token
-use Rattle.rsml_syntax.specs.Characters.{is_white, is_start, is_continuing, is_digit, is_name, are_digits, digits_at, digits_value, begins_blanks}
-use Rattle.rsml_syntax.specs.Marks as marks
-use Rattle.rsml_syntax.specs.Marks.{mark_at}
-use Rattle.rsml_syntax.specs.Scanning.{passing, after_passing, named, word_or_name, Front, Nothing, Cut, TooBig, Bad, front, front_named, front_number, front_marked}
-use Rattle.rsml_syntax.specs.Tokens.{Spells, ends, begins_longer, begins_token, first_is, greatest_number, is_reserved}
-use Rattle.rsml_syntax.specs.Words as words
-use Rattle.rsml_syntax.specs.Words.{word_of}
-use Rattle.rsml_syntax.proofs.CharacterLemmas.{both, neither, start_continues, start_excludes, digit_excludes, split_whole, split_passes, split_ends, split_again, digits_split}
+use Rattle.rsml_syntax.specs.text.Characters.{is_start, is_continuing, is_digit, is_name, are_digits, digits_at, digits_value, begins_blanks}
+use Rattle.rsml_syntax.specs.text.Marks as marks
+use Rattle.rsml_syntax.specs.text.Marks.{mark_at}
+use Rattle.rsml_syntax.specs.text.Characters.{passing}
+use Rattle.rsml_syntax.specs.helpers.Scanning.{after_passing, named, word_or_name, Front, Nothing, Cut, TooBig, Bad, front, front_named, front_number, front_marked}
+use Rattle.rsml_syntax.specs.text.Tokens.{Spells, ends, begins_longer, begins_token, first_is, greatest_number, is_reserved}
+use Rattle.rsml_syntax.specs.text.Words as words
+use Rattle.rsml_syntax.specs.text.Words.{word_of}
+use Rattle.rsml_syntax.proofs.CharacterLemmas.{both, neither, start_continues, start_excludes, digit_excludes, split_whole, split_passes, split_ends, split_again}
 use Rattle.rsml_syntax.proofs.WordLemmas.{word_spelled, word_is_name, named_word, named_name, named_spelled, mark_spelled, mark_found, mark_longest, mark_again, mark_none, none_mark}
 
 not_true : (b : Bool) → not b ≡ true → b ≡ false
@@ -56,7 +57,7 @@ number_cut e n [] more is v small stop = absurd (cc)
 number_cut e n (c ∷ s) more is v small stop =
     let h = both (is_digit c) (list_all is_digit s) is in
     let r = split_again is_digit (c ∷ s) more is stop in
-    let d : digits_at (c ∷ (s ++ more)) ≡ c ∷ s = digits_split (c ∷ (s ++ more)) ∙ r.0 in
+    let d : digits_at (c ∷ (s ++ more)) ≡ c ∷ s = r.0 in
     let fits : nat_le (digits_value (c ∷ s)) greatest_number ≡ true = grind (arith, nat_tests) in
     record {
       cut = ap (λ (b : Bool). if b then front_named e (c ∷ (s ++ more)) else if is_digit c then front_number (c ∷ (s ++ more)) else front_marked (mark_at (c ∷ (s ++ more))) (c ∷ (s ++ more))) (digit_excludes c h.0).1
@@ -146,7 +147,7 @@ passing_name : (c : ℕ) (cs : List ℕ) → is_start c ≡ true → is_name (pa
 passing_name c cs h = rw (start_continues c h) (rw h (split_passes is_continuing cs))
 
 digits_are : (c : ℕ) (cs : List ℕ) → is_digit c ≡ true → are_digits (digits_at (c ∷ cs)) ≡ true
-digits_are c cs h = rw h (rw h (ap (list_all is_digit) (digits_split cs) ∙ split_passes is_digit cs))
+digits_are c cs h = rw h (rw h (split_passes is_digit cs))
 
 pub front_means : (e : Edition) (cs : List ℕ) → Means e cs (front e cs)
 unfolding front
@@ -163,7 +164,7 @@ front_means e (c ∷ cs) = step (is_start c) refl
         Means e (c ∷ cs) (if b then Cut (token.Number (digits_value (digits_at (c ∷ cs)))) (digits_at (c ∷ cs)) (after_passing is_digit (c ∷ cs)) else TooBig)
     counted true same is =
         let fits : digits_value (digits_at (c ∷ cs)) ≤ greatest_number = grind (arith, nat_tests) in (
-          split_whole is_digit (c ∷ cs) ∙ ap (λ l. l ++ after_passing is_digit (c ∷ cs)) (sym (digits_split (c ∷ cs))),
+          split_whole is_digit (c ∷ cs),
           (digits_are c cs is, refl, fits),
           not_false _ (split_ends is_digit (c ∷ cs)),
         )

@@ -1,11 +1,10 @@
 -- The layout of tokens lexes to these tokens.
-use Rattle.std.proofs.Common.{◌≡◌, ℕ, zero, suc, ◌+◌, ◌-◌, ◌*◌, ◌/◌, ◌%◌, ◌^◌, ◌<◌, ◌≤◌, Bool, true, false, not, ◌||◌, ◌&&◌, ◌==◌, ◌⊎◌, inl, inr, List, [], ◌∷◌, ◌++◌, length, take, replicate, nat_eq, refl, sym, ap, ◌∙◌, subst, arith, rules, append_assoc, lit<}
+use Rattle.std.proofs.Common.{◌≡◌, ℕ, zero, suc, ◌+◌, ◌-◌, ◌*◌, ◌/◌, ◌%◌, ◌^◌, ◌<◌, ◌≤◌, Bool, true, false, not, ◌||◌, ◌&&◌, ◌==◌, inl, inr, List, [], ◌∷◌, ◌++◌, replicate, refl, sym, ap, ◌∙◌, subst, arith, rules, lit<}
 use Rattle.std.specs.Prelude.{if◌then◌else◌}
 use Rattle.std.specs.Char.{is_ascii_alphanumeric}
 use Rattle.std.specs.Fmt.{decimal}
 use Rattle.std.specs.List.{list_all}
 use Rattle.std.specs.Str.{encode_utf8_all, all_scalars}
-use Rattle.std.specs.Cmp.Lexicographic.{pointwise}
 use Rattle.std.proofs.lemmas.Bool.Decides.{nat_tests}
 use Rattle.std.proofs.lemmas.Fmt.{decimal_by_steps, IsAscii-decimal}
 use Rattle.std.proofs.lemmas.Str.{encodes-append, encodes-IsAscii}
@@ -19,12 +18,12 @@ use Rattle.rsml_syntax.specs.declared.token.Mark.TheVariants as mark
 use Rattle.rsml_syntax.specs.declared.token.Placed.{Placed}
 use Rattle.rsml_syntax.specs.declared.token.Token.{Token}
 use Rattle.rsml_syntax.specs.declared.token.Token.TheVariants as token
-use Rattle.rsml_syntax.specs.Characters.{are_blanks, is_white, is_start, is_continuing, is_digit, is_name, are_digits, digits_value, digits_value_from}
-use Rattle.rsml_syntax.specs.Layout.{text_of, is_mark, is_a_name, open_after, breaks_line, joins, new_line, space_between, layout_from, layout}
-use Rattle.rsml_syntax.specs.Lexing.{bytes_of, Scans, Lexes, bare}
-use Rattle.rsml_syntax.specs.Marks as marks
-use Rattle.rsml_syntax.specs.Tokens.{Tokens, Spells, ends, first_is, greatest_number, IsToken, AreTokens}
-use Rattle.rsml_syntax.specs.Words as words
+use Rattle.rsml_syntax.specs.text.Characters.{are_blanks, is_start, is_continuing, is_digit, are_digits, digits_value, digits_value_from}
+use Rattle.rsml_syntax.specs.grammar.Layout.{text_of, is_mark, is_a_name, open_after, breaks_line, joins, new_line, space_between, layout_from, layout}
+use Rattle.rsml_syntax.specs.text.Lexing.{bytes_of, Scans, Lexes, bare}
+use Rattle.rsml_syntax.specs.text.Marks as marks
+use Rattle.rsml_syntax.specs.text.Tokens.{Tokens, Spells, ends, greatest_number, IsToken, AreTokens}
+use Rattle.rsml_syntax.specs.text.Words as words
 use Rattle.rsml_syntax.proofs.CharacterLemmas.{both, either, neither, white_before}
 use Rattle.rsml_syntax.proofs.WordLemmas.{word_spelled, mark_spelled}
 

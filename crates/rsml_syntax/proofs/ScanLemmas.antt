@@ -1,9 +1,9 @@
 -- A text is at most one list of tokens, or has at most one first fault, and never both.
-use Rattle.std.proofs.Common.{◌≡◌, ℕ, zero, suc, ◌+◌, ◌-◌, ◌<◌, ◌≤◌, Bool, true, false, ◌⊎◌, inl, inr, List, [], ◌∷◌, ◌++◌, length, take, map, refl, sym, ap, ◌∙◌, subst, arith, append_assoc, length-append}
+use Rattle.std.proofs.Common.{◌≡◌, ℕ, zero, suc, ◌+◌, ◌-◌, ◌<◌, ◌≤◌, Bool, true, false, ◌⊎◌, inl, inr, List, [], ◌∷◌, ◌++◌, length, take, refl, sym, ap, ◌∙◌, subst, arith, append_assoc, length-append}
 use Rattle.std.specs.Prelude.{if◌then◌else◌}
 use Rattle.std.specs.Str.{encode_utf8_all, all_scalars, IsUtf8, is_utf8}
 use Rattle.std.specs.Str.Lossy.{utf8_valid_len, valid_len_up_to}
-use Rattle.std.proofs.lemmas.List.{append-nil, take_all, length-take-le}
+use Rattle.std.proofs.lemmas.List.{take_all, length-take-le}
 use Rattle.std.proofs.lemmas.Str.{encodes_same, encodes-append, length-le-encodes, utf8_valid_len-IsUtf8, utf8_valid_len_le, IsUtf8-nil, IsUtf8-from_is_utf8}
 use Rattle.std.proofs.lemmas.Bool.{cases_lt}
 use lib.Utf8.{scalar}
@@ -11,12 +11,12 @@ use Rattle.rsml_syntax.specs.declared.edition.Edition.{Edition}
 use Rattle.rsml_syntax.specs.declared.token.Placed.{Placed}
 use Rattle.rsml_syntax.specs.declared.token.Token.{Token}
 use Rattle.rsml_syntax.specs.declared.token.Token.TheVariants as token
-use Rattle.rsml_syntax.specs.Characters.{are_blanks, begins_blanks, is_digit, digits_at, digits_value}
-use Rattle.rsml_syntax.specs.Lexing.{bytes_of, Scans, ScansWhole, Lexes, bare, Fault, NotUtf8, BadCharacter, NumberTooBig, Reaches, front_of, LexFault}
-use Rattle.rsml_syntax.specs.Scanning.{after_blanks, Front, Nothing, Cut, TooBig, Bad, front, next, Stuck}
-use Rattle.rsml_syntax.specs.Tokens.{Spells, ends, begins_token, first_is, greatest_number, IsToken, AreTokens}
+use Rattle.rsml_syntax.specs.text.Characters.{are_blanks, begins_blanks}
+use Rattle.rsml_syntax.specs.text.Lexing.{bytes_of, Scans, ScansWhole, Lexes, bare, Fault, NotUtf8, BadCharacter, NumberTooBig, Reaches, utf8_prefix, LexFault}
+use Rattle.rsml_syntax.specs.helpers.Scanning.{after_blanks, Front, Nothing, Cut, TooBig, Bad, front, next, Stuck}
+use Rattle.rsml_syntax.specs.text.Tokens.{Spells, ends, IsToken, AreTokens}
 use Rattle.rsml_syntax.proofs.CharacterLemmas.{both, blanks_ahead, blanks_before, blanks_only, blanks_to_end, no_blanks}
-use Rattle.rsml_syntax.proofs.FrontLemmas.{IsCut, token_cut, bad_front, big_front, Means, front_means}
+use Rattle.rsml_syntax.proofs.FrontLemmas.{token_cut, bad_front, big_front, Means, front_means}
 
 abbrev placed : Token → ℕ → Placed
 placed t n = record { token = t; at = n }
@@ -95,8 +95,16 @@ whole_stops e rest h = ap (front e) (blanks_to_end rest h)
 
 reached : (e : Edition) (cs : List ℕ) (at : ℕ) (ahead : List ℕ) (f : Front) → Reaches e cs at ahead → front e ahead ≡ f → begins_blanks ahead ≡ false → Stuck e cs at f
 reached e cs at ahead f r h plain =
-    let after : after_blanks r.1 ≡ ahead = ap after_blanks r.4 ∙ blanks_ahead r.2 ahead r.5 ∙ no_blanks ahead plain in
-    record { tokens = r.0; rest = r.1; ahead = ahead; scanned = r.3; is = ap (front e) after ∙ h; blanks = after; offset = r.6 }
+    let after : after_blanks (r.gap ++ ahead) ≡ ahead = blanks_ahead r.gap ahead r.blanks ∙ no_blanks ahead plain in
+    record {
+      tokens = r.tokens;
+      rest = r.gap ++ ahead;
+      ahead = ahead;
+      scanned = r.scanned;
+      is = ap (front e) after ∙ h;
+      blanks = after;
+      offset = omega (arith, r.offset, ap bytes_of r.split, bytes_of-append r.before ahead);
+    }
 
 stuck_same : (e : Edition) (cs : List ℕ) (m n : ℕ) (f g : Front) → stops f ≡ true → stops g ≡ true → Stuck e cs m f → Stuck e cs n g → (m ≡ n) × (f ≡ g)
 stuck_same e cs m n f g fs gs a b =
@@ -122,7 +130,7 @@ lexes_once e bytes ts us a b =
 -- the characters of the longest front that is UTF-8, and how far the tokens reach in it
 pub record Faulty (e : Edition) (bytes : List ℕ) (at : ℕ) (f : Front) : Type 0 where
   pub characters : List ℕ
-  pub front_is : front_of bytes ≡ encode_utf8_all characters
+  pub encoded : utf8_prefix bytes ≡ encode_utf8_all characters
   pub stuck : Stuck e characters at f
 
 -- what a fault shows at its offset
@@ -136,25 +144,29 @@ offset_of (NotUtf8 at) = at
 offset_of (BadCharacter at) = at
 offset_of (NumberTooBig at) = at
 
-length_front : (bytes : List ℕ) → length (front_of bytes) ≡ utf8_valid_len bytes
+length_front : (bytes : List ℕ) → length (utf8_prefix bytes) ≡ utf8_valid_len bytes
 length_front bytes = length-take-le (utf8_valid_len bytes) bytes (utf8_valid_len_le bytes)
 
 pub fault_is : (e : Edition) (bytes : List ℕ) (f : Fault) → LexFault e bytes f → Faulty e bytes (offset_of f) (shown f)
 fault_is e bytes (NotUtf8 at) h =
-    let at_end : at ≡ bytes_of h.0 = h.5 ∙ sym (length_front bytes) ∙ ap length h.3 in
-    record { characters = h.0; front_is = h.3; stuck = subst (λ (n : ℕ). Stuck e h.0 n Nothing) (sym at_end) (whole_stuck e h.0 h.1 h.4) }
+    let at_end : at ≡ bytes_of h.cs = h.offset ∙ sym (length_front bytes) ∙ ap length h.characters.encoded in
+    record { characters = h.cs; encoded = h.characters.encoded; stuck = subst (λ (n : ℕ). Stuck e h.cs n Nothing) (sym at_end) (whole_stuck e h.cs h.tokens h.scanned) }
 fault_is e bytes (BadCharacter at) h =
-    record { characters = h.0; front_is = h.3; stuck = reached e h.0 at h.1 Bad h.4 (bad_front e h.1 h.5 h.7) h.6 }
+    record {
+      characters = h.cs;
+      encoded = h.characters.encoded;
+      stuck = reached e h.cs at h.next Bad h.reached (bad_front e h.next h.some h.no_token) h.no_blanks;
+    }
 fault_is e bytes (NumberTooBig at) h =
-    let big = big_front e h.1 h.5 h.6 in
-    record { characters = h.0; front_is = h.3; stuck = reached e h.0 at h.1 TooBig h.4 big.0 big.1 }
+    let big = big_front e h.next h.digits h.too_big in
+    record { characters = h.cs; encoded = h.characters.encoded; stuck = reached e h.cs at h.next TooBig h.reached big.0 big.1 }
 
 -- a text has at most one first fault
 pub fault_once : (e : Edition) (bytes : List ℕ) (f g : Fault) → LexFault e bytes f → LexFault e bytes g → f ≡ g
 fault_once e bytes f g h k =
     let a = fault_is e bytes f h in
     let b = fault_is e bytes g k in
-    let same : b.characters ≡ a.characters = encodes_same b.characters a.characters (sym b.front_is ∙ a.front_is) in
+    let same : b.characters ≡ a.characters = encodes_same b.characters a.characters (sym b.encoded ∙ a.encoded) in
     let s = stuck_same e a.characters (offset_of f) (offset_of g) (shown f) (shown g) (shown_stops f) (shown_stops g) a.stuck (subst (λ (cs : List ℕ). Stuck e cs (offset_of g) (shown g)) same b.stuck) in
     told f g s.0 s.1
   where
@@ -174,7 +186,7 @@ fault_once e bytes f g h k =
     told (NumberTooBig m) (BadCharacter n) a b = absurd (cc)
     told (NumberTooBig m) (NumberTooBig n) a b = ap NumberTooBig a
 
-utf8_front : (bytes cs : List ℕ) → all_scalars cs ≡ true → bytes ≡ encode_utf8_all cs → (utf8_valid_len bytes ≡ length bytes) × (front_of bytes ≡ encode_utf8_all cs)
+utf8_front : (bytes cs : List ℕ) → all_scalars cs ≡ true → bytes ≡ encode_utf8_all cs → (utf8_valid_len bytes ≡ length bytes) × (utf8_prefix bytes ≡ encode_utf8_all cs)
 utf8_front bytes cs scalar h =
     let n = utf8_valid_len-IsUtf8 bytes (cs, (scalar, sym h)) in
     (n, take_all (utf8_valid_len bytes) bytes (omega arith) ∙ h)
@@ -185,11 +197,11 @@ lexes_or_faults e bytes ts f h k = differ f k
   where
     differs : (at : ℕ) (g : Front) → stops g ≡ true → (g ≡ Nothing → ⊥) → Faulty e bytes at g → ⊥
     differs at g s other b =
-        let same : b.characters ≡ h.0 = encodes_same b.characters h.0 (sym b.front_is ∙ (utf8_front bytes h.0 h.1 h.2).1) in
+        let same : b.characters ≡ h.0 = encodes_same b.characters h.0 (sym b.encoded ∙ (utf8_front bytes h.0 h.1 h.2).1) in
         other (sym (stuck_same e h.0 (bytes_of h.0) at Nothing g refl s (whole_stuck e h.0 ts h.3) (subst (λ (cs : List ℕ). Stuck e cs at g) same b.stuck)).1)
 
     differ : (f : Fault) → LexFault e bytes f → ⊥
-    differ (NotUtf8 at) k = omega (arith, (utf8_front bytes h.0 h.1 h.2).0, k.5, k.6)
+    differ (NotUtf8 at) k = omega (arith, (utf8_front bytes h.0 h.1 h.2).0, k.offset, k.within)
     differ (BadCharacter at) k = differs at Bad refl (λ h. cc) (fault_is e bytes (BadCharacter at) k)
     differ (NumberTooBig at) k = differs at TooBig refl (λ h. cc) (fault_is e bytes (NumberTooBig at) k)
 
@@ -224,19 +236,40 @@ stuck_reaches : (e : Edition) (cs : List ℕ) (at : ℕ) (f : Front) (s : Stuck 
     Reaches e cs at (after_blanks s.rest) × (begins_blanks (after_blanks s.rest) ≡ false)
 stuck_reaches e cs at f s some =
     let b = blanks_before s.rest (some_after e s.rest f s.is some) in
-    ((s.tokens, s.rest, b.0, s.scanned, b.1, b.2, ap (λ l. at + bytes_of l) s.blanks ∙ s.offset), b.3)
+    let scanned = subst (λ (l : List ℕ). Scans e 0 cs s.tokens l) b.1 s.scanned in
+    let split = scans_bytes e 0 cs s.tokens (b.0 ++ after_blanks s.rest) scanned in
+    let whole : cs ≡ (split.0 ++ b.0) ++ after_blanks s.rest = split.1 ∙ sym (append_assoc split.0 b.0 (after_blanks s.rest)) in (
+      record {
+        tokens = s.tokens;
+        before = split.0 ++ b.0;
+        gap = b.0;
+        scanned = scanned;
+        blanks = b.2;
+        split = whole;
+        offset = omega (arith, s.offset, ap bytes_of s.blanks, ap bytes_of whole, bytes_of-append (split.0 ++ b.0) (after_blanks s.rest));
+      },
+      b.3,
+    )
 
-pub stuck_bad : (e : Edition) (bytes cs : List ℕ) (at : ℕ) → all_scalars cs ≡ true → front_of bytes ≡ encode_utf8_all cs → Stuck e cs at Bad → LexFault e bytes (BadCharacter at)
+pub stuck_bad : (e : Edition) (bytes cs : List ℕ) (at : ℕ) → all_scalars cs ≡ true → utf8_prefix bytes ≡ encode_utf8_all cs → Stuck e cs at Bad → LexFault e bytes (BadCharacter at)
 stuck_bad e bytes cs at scalar is s =
     let m = subst (Means e (after_blanks s.rest)) s.is (front_means e (after_blanks s.rest)) in
     let r = stuck_reaches e cs at Bad s (λ h. cc) in
-    (cs, after_blanks s.rest, scalar, is, r.0, m.0, r.1, m.1)
+    record {
+      cs = cs;
+      next = after_blanks s.rest;
+      characters = record { scalars = scalar; encoded = is };
+      reached = r.0;
+      some = m.0;
+      no_blanks = r.1;
+      no_token = m.1;
+    }
 
-pub stuck_big : (e : Edition) (bytes cs : List ℕ) (at : ℕ) → all_scalars cs ≡ true → front_of bytes ≡ encode_utf8_all cs → Stuck e cs at TooBig → LexFault e bytes (NumberTooBig at)
+pub stuck_big : (e : Edition) (bytes cs : List ℕ) (at : ℕ) → all_scalars cs ≡ true → utf8_prefix bytes ≡ encode_utf8_all cs → Stuck e cs at TooBig → LexFault e bytes (NumberTooBig at)
 stuck_big e bytes cs at scalar is s =
     let m = subst (Means e (after_blanks s.rest)) s.is (front_means e (after_blanks s.rest)) in
     let r = stuck_reaches e cs at TooBig s (λ h. cc) in
-    (cs, after_blanks s.rest, scalar, is, r.0, m.0, m.1)
+    record { cs = cs; next = after_blanks s.rest; characters = record { scalars = scalar; encoded = is }; reached = r.0; digits = m.0; too_big = m.1 }
 
 -- all tokens from the front on
 scan : (n : ℕ) (e : Edition) (at : ℕ) (cs : List ℕ) → length cs ≤ n → (ts : List Placed) × (rest : List ℕ) × Scans e at cs ts rest × (stops (next e rest) ≡ true)
@@ -262,15 +295,15 @@ front_utf8 bs (suc n) =
     [ true ↦ λ h. IsUtf8-from_is_utf8 (take (suc n) bs) h | false ↦ λ h. front_utf8 bs n ] refl
 
 -- the characters of the longest front that is UTF-8
-pub front_characters : (bytes : List ℕ) → (cs : List ℕ) × (all_scalars cs ≡ true) × (front_of bytes ≡ encode_utf8_all cs)
+pub front_characters : (bytes : List ℕ) → (cs : List ℕ) × (all_scalars cs ≡ true) × (utf8_prefix bytes ≡ encode_utf8_all cs)
 unfolding utf8_valid_len
 front_characters bytes = let u = front_utf8 bytes (length bytes) in (u.0, u.1.0, sym u.1.1)
 
 -- what is whole up to where UTF-8 ends
-pub whole_or_broken : (e : Edition) (bytes cs : List ℕ) (ts : List Placed) → all_scalars cs ≡ true → front_of bytes ≡ encode_utf8_all cs → ScansWhole e cs ts →
+pub whole_or_broken : (e : Edition) (bytes cs : List ℕ) (ts : List Placed) → all_scalars cs ≡ true → utf8_prefix bytes ≡ encode_utf8_all cs → ScansWhole e cs ts →
     Lexes e bytes ts ⊎ LexFault e bytes (NotUtf8 (utf8_valid_len bytes))
 whole_or_broken e bytes cs ts scalar is h = elim (cases_lt (utf8_valid_len bytes) (length bytes)) [
-  | inl short ↦ inr (cs, ts, scalar, is, h, refl, short)
+  | inl short ↦ inr (record { cs = cs; tokens = ts; characters = record { scalars = scalar; encoded = is }; scanned = h; offset = refl; within = short })
   | inr all ↦ inl (cs, scalar, sym (take_all (utf8_valid_len bytes) bytes all) ∙ is, h)
 ]
 
@@ -280,11 +313,11 @@ lexes_or_fails e bytes =
     let r = scan (length c.0) e 0 c.0 (omega arith) in
     read c.0 c.1 c.2 r.0 r.1 r.2 (next e r.1) refl r.3
   where
-    whole : (cs : List ℕ) → all_scalars cs ≡ true → front_of bytes ≡ encode_utf8_all cs → (ts : List Placed) → ScansWhole e cs ts →
+    whole : (cs : List ℕ) → all_scalars cs ≡ true → utf8_prefix bytes ≡ encode_utf8_all cs → (ts : List Placed) → ScansWhole e cs ts →
         ((ts : List Placed) × Lexes e bytes ts) ⊎ ((f : Fault) × LexFault e bytes f)
     whole cs scalar is ts h = elim (whole_or_broken e bytes cs ts scalar is h) [ inl l ↦ inl (ts, l) | inr f ↦ inr (NotUtf8 (utf8_valid_len bytes), f) ]
 
-    read : (cs : List ℕ) → all_scalars cs ≡ true → front_of bytes ≡ encode_utf8_all cs → (ts : List Placed) (rest : List ℕ) → Scans e 0 cs ts rest →
+    read : (cs : List ℕ) → all_scalars cs ≡ true → utf8_prefix bytes ≡ encode_utf8_all cs → (ts : List Placed) (rest : List ℕ) → Scans e 0 cs ts rest →
         (f : Front) → next e rest ≡ f → stops (next e rest) ≡ true → ((ts : List Placed) × Lexes e bytes ts) ⊎ ((f : Fault) × LexFault e bytes f)
     read cs scalar is ts rest h Nothing same stop = whole cs scalar is ts (scans_whole e cs ts rest h same)
     read cs scalar is ts rest h (Cut t s more) same stop = absurd (let k = sym (ap stops same) ∙ stop in cc)

@@ -1,5 +1,5 @@
 -- Reserved words and marks at the front of characters.
-use Rattle.std.proofs.Common.{◌≡◌, ℕ, ◌<◌, ◌≤◌, Bool, true, false, not, cond, ◌||◌, ◌&&◌, ◌==◌, ◌⊎◌, inl, inr, List, [], ◌∷◌, ◌++◌, length, take, drop, Option, Some, None, find, nat_eq, nat_lt, refl, sym, ap, ◌∙◌, subst, arith, lit<}
+use Rattle.std.proofs.Common.{◌≡◌, ℕ, ◌<◌, Bool, true, false, cond, ◌||◌, ◌&&◌, ◌==◌, ◌⊎◌, inl, inr, List, [], ◌∷◌, ◌++◌, length, take, drop, Option, Some, None, find, nat_eq, nat_lt, refl, sym, ap, ◌∙◌, subst, arith, lit<}
 use Rattle.std.specs.Prelude.{if◌then◌else◌}
 use Rattle.std.specs.Char.{is_ascii_alphabetic}
 use Rattle.std.specs.List.{list_all, list_any, starts_with}
@@ -18,14 +18,14 @@ use Rattle.rsml_syntax.specs.declared.token.Word.{Word}
 use Rattle.rsml_syntax.specs.declared.token.Word.TheVariants as word
 use Rattle.rsml_syntax.specs.declared.token.Token.TheVariants as token
 use Rattle.rsml_syntax.specs.declared.token.TheConstants.{WORDS, MARKS}
-use Rattle.rsml_syntax.specs.Characters.{is_white, is_start, is_continuing, is_digit, is_name, begins_blanks}
-use Rattle.rsml_syntax.specs.Marks as marks
-use Rattle.rsml_syntax.specs.Marks.{mark_at}
-use Rattle.rsml_syntax.specs.Names.{Name, same}
-use Rattle.rsml_syntax.specs.Scanning.{named, word_or_name}
-use Rattle.rsml_syntax.specs.Tokens.{Spells, is_reserved, is_word, begins_longer}
-use Rattle.rsml_syntax.specs.Words as words
-use Rattle.rsml_syntax.specs.Words.{word_of}
+use Rattle.rsml_syntax.specs.text.Characters.{is_white, is_start, is_continuing, is_digit, is_name}
+use Rattle.rsml_syntax.specs.text.Marks as marks
+use Rattle.rsml_syntax.specs.text.Marks.{mark_at}
+use Rattle.rsml_syntax.specs.text.Names.{Name, same}
+use Rattle.rsml_syntax.specs.helpers.Scanning.{named, word_or_name}
+use Rattle.rsml_syntax.specs.text.Tokens.{Spells, is_reserved, is_word, begins_longer}
+use Rattle.rsml_syntax.specs.text.Words as words
+use Rattle.rsml_syntax.specs.text.Words.{word_of}
 use Rattle.rsml_syntax.proofs.CharacterLemmas.{both, neither, start_continues}
 
 -- Searching a list.

@@ -1,5 +1,5 @@
 ghost use Rattle.std.specs.Prelude.{◌≡◌};
-ghost use Rattle.rsml_syntax.specs.Checked.{IsChecked};
+ghost use Rattle.rsml_syntax.specs.limits.Checked.{IsChecked};
 
 use crate::syntax::Spec;
 use std::marker::Model;
@@ -13,7 +13,7 @@ pub struct Checked {
 impl Model for Checked {
     ghost use Rattle.rsml_syntax.specs.declared.syntax.Spec.{Spec};
     ghost use Rattle.rsml_syntax.specs.contracts.syntax.Body as bodies;
-    ghost use Rattle.rsml_syntax.specs.Checked.{IsChecked};
+    ghost use Rattle.rsml_syntax.specs.limits.Checked.{IsChecked};
     ghost use Rattle.std.specs.Coded.{codes};
 
     ghost Value = { Spec };

@@ -2,11 +2,11 @@ ghost use Rattle.std.specs.Prelude.{◌≡◌, [], List, OnOk, IfOk};
 ghost use Rattle.std.specs.String.{string_bytes};
 ghost use Rattle.rsml_syntax.specs.declared.edition.Edition.TheVariants.{Second};
 ghost use Rattle.rsml_syntax.specs.declared.token.Placed.{Placed};
-ghost use Rattle.rsml_syntax.specs.Grammar.{tokens_of};
-ghost use Rattle.rsml_syntax.specs.Layout.{layout};
-ghost use Rattle.rsml_syntax.specs.Lexing.{Lexes, bare};
-ghost use Rattle.rsml_syntax.specs.Printing.{with_tokens};
-ghost use Rattle.rsml_syntax.specs.WellFormed.{WellFormed};
+ghost use Rattle.rsml_syntax.specs.grammar.Grammar.{tokens_of};
+ghost use Rattle.rsml_syntax.specs.grammar.Layout.{layout};
+ghost use Rattle.rsml_syntax.specs.text.Lexing.{Lexes, bare};
+ghost use Rattle.rsml_syntax.specs.helpers.Printing.{with_tokens};
+ghost use Rattle.rsml_syntax.specs.grammar.WellFormed.{WellFormed};
 
 mod declarations;
 mod items;
@@ -16,11 +16,11 @@ mod states;
 mod sums;
 mod tables;
 
-use crate::no_memory::NoMemory;
 use crate::syntax::Spec;
 use crate::token::{Mark, Word};
 use items::print_each;
 use printer::Printer;
+use rsml_base::NoMemory;
 use states::print_body;
 use std::alloc::Global;
 

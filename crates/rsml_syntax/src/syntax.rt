@@ -1,5 +1,4 @@
-use crate::list::List;
-use crate::text::Text;
+use rsml_base::{List, Text};
 
 /// A specification as it is written: one component of a system.
 #[derive(Drop)]
@@ -27,7 +26,7 @@ pub enum Amount {
 }
 
 /// What stands in the brackets after a name.
-#[derive(Debug, Drop)]
+#[derive(Debug, PartialEq, Eq, Hash, Drop)]
 pub enum Index {
     Number(u32),
     /// The variable of a quantifier, or a constant.
@@ -37,7 +36,7 @@ pub enum Index {
 }
 
 /// A name at its place of use.
-#[derive(Debug, Drop)]
+#[derive(Debug, PartialEq, Eq, Hash, Drop)]
 pub struct Mention {
     pub name: Text,
     pub index: Option<Index>,

@@ -1,4 +1,4 @@
-use crate::text::Text;
+use rsml_base::Text;
 
 /// A reserved word.
 #[derive(Clone, Copy, Debug, PartialEq, Eq)]
@@ -74,10 +74,10 @@ pub const WORDS: [Word; 31] = [
 
 impl Word {
     ghost use Rattle.std.specs.Prelude.{◌≡◌};
-    ghost use Rattle.rsml_syntax.specs.Words.{spelling, same_word};
+    ghost use Rattle.rsml_syntax.specs.text.Words.{spelling, same_word};
 
     /// How the word is written.
-    #[tactic(auto, unfolding(crate::specs::Words::spelling))]
+    #[tactic(auto, unfolding(crate::specs::text::Words::spelling))]
     pub fn spelling(self) -> &'static [u8]
         ensures { result.now ≡ spelling self }
     {
@@ -177,10 +177,10 @@ pub const MARKS: [Mark; 21] = [
 
 impl Mark {
     ghost use Rattle.std.specs.Prelude.{◌≡◌};
-    ghost use Rattle.rsml_syntax.specs.Marks.{spelling, same_mark};
+    ghost use Rattle.rsml_syntax.specs.text.Marks.{spelling, same_mark};
 
     /// How the mark is written.
-    #[tactic(auto, unfolding(crate::specs::Marks::spelling))]
+    #[tactic(auto, unfolding(crate::specs::text::Marks::spelling))]
     pub fn spelling(self) -> &'static [u8]
         ensures { result.now ≡ spelling self }
     {

@@ -1,5 +1,4 @@
-use crate::list::List;
-use crate::text::Text;
+use rsml_base::{List, Text};
 
 /// One step of a path: a state's name, and the index of an array's element, or 0 for a plain state.
 #[derive(Debug, Drop)]

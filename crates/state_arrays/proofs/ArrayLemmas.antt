@@ -4,7 +4,7 @@ use Rattle.std.specs.Option.{option_map, option_and_then}
 use Rattle.std.specs.Borrow.{Bor}
 use Rattle.std.specs.Cmp.Lexicographic.{nat_list_eq_equiv}
 use Rattle.std.specs.List.{position_from}
-use Rattle.rsml_syntax.specs.Names.{Name, same}
+use Rattle.rsml_syntax.specs.text.Names.{Name, same}
 use Rattle.rsml_meaning.specs.Words.{Instance, at, same_instance, place_in}
 use Rattle.state_arrays.specs.Ranges.{range, place_from}
 use Rattle.rsml_meaning.proofs.Same.{name_same}

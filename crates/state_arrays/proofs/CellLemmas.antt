@@ -7,15 +7,15 @@ use Rattle.std.proofs.lemmas.List.Elements.{filter-append}
 use Rattle.rsml_syntax.specs.declared.syntax.Spec.{Spec}
 use Rattle.rsml_syntax.specs.declared.syntax.Decl.{Decl}
 use Rattle.rsml_syntax.specs.declared.syntax.Decl.TheVariants as decl
-use Rattle.rsml_syntax.specs.Names.{Name}
-use Rattle.rsml_syntax.specs.Globals.{indices}
-use Rattle.rsml_syntax.specs.Previous.{names_previous}
-use Rattle.rsml_counts.specs.PreviousNames.{previous_names}
-use Rattle.rsml_counts.proofs.NamedAfter.{previous_is}
+use Rattle.rsml_syntax.specs.text.Names.{Name}
+use Rattle.rsml_syntax.specs.rules.Globals.{indices}
+use Rattle.rsml_syntax.specs.limits.Previous.{names_previous}
+use Rattle.rsml_limits.specs.counts.PreviousNames.{previous_names}
+use Rattle.rsml_limits.proofs.NamedAfter.{previous_is}
 use Rattle.rsml_meaning.specs.Words.{Instance, at, same_instance, place_in, Each}
 use Rattle.rsml_meaning.specs.Instances.{globals_of, instances}
 use Rattle.rsml_meaning.specs.Cells.{InputCell, InputType, type_named, initial_number, new_cell, cells_of, own_cells, as_previous, previous_cells}
-use Rattle.state_nodes.proofs.Clean.{each_flat_map}
+use Rattle.state_tree.proofs.Lists.{each_flat_map}
 use Rattle.state_arrays.specs.Made.{inputs_of, previous_of}
 use Rattle.state_arrays.specs.Places.{cell_place, previous_place}
 use Rattle.state_arrays.proofs.ArrayLemmas.{from_later, place_append}

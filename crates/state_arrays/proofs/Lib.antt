@@ -1,6 +1,5 @@
 pub mod ArrayLemmas
 pub mod CellLemmas
-pub mod Clean
 pub mod Distinct
 pub mod MadeLemmas
 pub mod NumberLemmas

@@ -5,11 +5,11 @@ use Rattle.std.proofs.lemmas.List.{take-append-drop}
 use Rattle.rsml_syntax.specs.declared.syntax.Spec.{Spec}
 use Rattle.rsml_syntax.specs.declared.syntax.Decl.{Decl}
 use Rattle.rsml_syntax.specs.declared.syntax.Decl.TheVariants as decl
-use Rattle.rsml_syntax.specs.Checked.{IsChecked}
-use Rattle.rsml_syntax.specs.Names.{Name, is_in}
-use Rattle.rsml_syntax.specs.Globals.{Globals, globals, name_of, indices}
-use Rattle.rsml_counts.specs.PreviousNames.{previous_names}
-use Rattle.rsml_syntax.specs.Rules.{refused}
+use Rattle.rsml_syntax.specs.limits.Checked.{IsChecked}
+use Rattle.rsml_syntax.specs.text.Names.{Name, is_in}
+use Rattle.rsml_syntax.specs.rules.Globals.{Globals, globals, name_of, indices}
+use Rattle.rsml_limits.specs.counts.PreviousNames.{previous_names}
+use Rattle.rsml_syntax.specs.rules.Rules.{broken_rule}
 use Rattle.rsml_meaning.specs.Words.{Instance}
 use Rattle.rsml_meaning.specs.Instances.{State, globals_of, instances, events_of, states}
 use Rattle.std.proofs.lemmas.Grind.{flat_map-append}
@@ -24,7 +24,7 @@ admits_turn g make ds i d xs h l e x =
     subst (λ ys. Admits g ys (make d) d) (sym x)
     (h (take i ds) d (drop (suc i) ds) (sym (take-append-drop i ds) ∙ ap (λ (ys : List Decl). take i ds ++ ys) (drop-cons ds i d l) ∙ ap (λ (y : Decl). take i ds ++ (y ∷ drop (suc i) ds)) (sym e)))
 
-arrays_of : (s : Spec) (make : Decl → List Instance) → refused s ≡ None → AreNamed make → length (flat_map make s.decls) ≤ 1024 → AreArrays (globals_of s) make s.decls
+arrays_of : (s : Spec) (make : Decl → List Instance) → broken_rule s ≡ None → AreNamed make → length (flat_map make s.decls) ≤ 1024 → AreArrays (globals_of s) make s.decls
 arrays_of s make h named room before d after e =
     let small = sized_here s h before d after e in
     let all : length (flat_map make s.decls) ≡ length (flat_map make before) + length (make d ++ flat_map make after) =

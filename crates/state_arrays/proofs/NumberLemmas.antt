@@ -3,12 +3,12 @@ use Rattle.std.proofs.Common.{◌≡◌, ℕ, zero, suc, ◌+◌, ◌-◌, ◌�
 use Rattle.std.specs.Option.{option_map, option_and_then}
 use Rattle.std.specs.List.{position_from}
 use Rattle.std.specs.Cmp.{first_so, second_so}
-use Rattle.rsml_syntax.specs.Names.{Name, same}
+use Rattle.rsml_syntax.specs.text.Names.{Name, same}
 use Rattle.rsml_meaning.specs.Words.{Path, Instance, Each, at, same_path, child_path}
 use Rattle.rsml_meaning.specs.Instances.{State}
 use Rattle.rsml_meaning.proofs.Same.{nat_same, nat_itself, name_same, name_itself}
-use Rattle.state_nodes.specs.Numbers.{IsPlace, paths, path_above, path_around}
-use Rattle.state_nodes.proofs.Numbering.{get_last, above_child}
+use Rattle.state_tree.specs.nodes.Numbers.{IsPlace, paths, path_above, path_around}
+use Rattle.state_tree.proofs.Numbering.{get_last, above_child}
 use Rattle.state_arrays.specs.Places.{path_place, path_at}
 use Rattle.state_arrays.specs.Trees.{PathsDiffer, HasPath, IsTree}
 use Rattle.state_arrays.specs.Children.{path_of, child_place, last_of, IsChildAt}

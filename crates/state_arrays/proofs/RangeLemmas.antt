@@ -3,7 +3,7 @@ use Rattle.std.proofs.Common.{◌≡◌, ℕ, zero, suc, ◌+◌, ◌-◌, ◌�
 use Rattle.std.specs.List.{position_from, range_with_len}
 use Rattle.std.proofs.lemmas.Bool.Decides.{nat_tests}
 use Rattle.rsml_syntax.specs.declared.syntax.Amount.{Amount}
-use Rattle.rsml_syntax.specs.Globals.{Globals, many, up_to, indices}
+use Rattle.rsml_syntax.specs.rules.Globals.{Globals, many, up_to, indices}
 use Rattle.rsml_meaning.proofs.Same.{nat_same, nat_itself}
 use Rattle.state_arrays.specs.Ranges.{range}
 

@@ -5,12 +5,12 @@ use Rattle.rsml_syntax.specs.declared.syntax.Spec.{Spec}
 use Rattle.rsml_syntax.specs.declared.syntax.Decl.{Decl}
 use Rattle.rsml_syntax.specs.declared.syntax.Decl.TheVariants as decl
 use Rattle.rsml_syntax.specs.declared.syntax.Amount.{Amount}
-use Rattle.rsml_syntax.specs.Names.{Name, is_in}
-use Rattle.rsml_syntax.specs.Globals.{Globals, globals, many, up_to, indices, names_of}
-use Rattle.rsml_syntax.specs.Previous.{names_previous}
-use Rattle.rsml_syntax.specs.Parts.{Part, Declared, Opens, Closes, declared, inside, top_of, parts}
-use Rattle.rsml_syntax.specs.Limits.{Limit, adds, total, limit, states_at, transitions_at, events_at, cells_at, definitions_at, rows_at, thresholds_and_keys, shown, first_over, over}
-use Rattle.rsml_counts.proofs.Adding.{adds_append}
+use Rattle.rsml_syntax.specs.text.Names.{Name, is_in}
+use Rattle.rsml_syntax.specs.rules.Globals.{Globals, globals, many, up_to, indices, names_of}
+use Rattle.rsml_syntax.specs.limits.Previous.{names_previous}
+use Rattle.rsml_syntax.specs.grammar.Parts.{Part, Declared, Opens, Closes, declared, inside, top_of, parts}
+use Rattle.rsml_syntax.specs.limits.Limits.{Limit, adds, total, limit, states_at, transitions_at, events_at, cells_at, definitions_at, rows_at, thresholds_and_keys, shown, first_over, over}
+use Rattle.rsml_limits.proofs.Adding.{adds_append}
 use Rattle.rsml_meaning.specs.Words.{Instance, at}
 use Rattle.rsml_meaning.specs.Instances.{globals_of, instances, events_of, events}
 use Rattle.state_arrays.specs.Made.{inputs_of, previous_of}

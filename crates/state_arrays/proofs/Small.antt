@@ -4,12 +4,12 @@ use Rattle.std.specs.Option.{option_map_or}
 use Rattle.std.specs.Cmp.{first_so, second_so}
 use Rattle.std.proofs.lemmas.Int.{ints}
 use Rattle.rsml_syntax.specs.declared.syntax.Amount.{Amount}
-use Rattle.rsml_syntax.specs.Names.{Name}
-use Rattle.rsml_syntax.specs.Globals.{many, amount_of}
-use Rattle.rsml_syntax.specs.Breaches.{breach}
-use Rattle.rsml_syntax.specs.Scopes.{Whole, Scope, is_up_to}
-use Rattle.rsml_syntax.specs.Uses.{is_amount, amount_used, sized}
-use Rattle.state_arrays.proofs.Clean.{no_front, holds}
+use Rattle.rsml_syntax.specs.text.Names.{Name}
+use Rattle.rsml_syntax.specs.rules.Globals.{many, amount_of}
+use Rattle.rsml_syntax.specs.rules.Breaches.{breach}
+use Rattle.rsml_syntax.specs.rules.Scopes.{NameTables, Scope, is_up_to}
+use Rattle.rsml_syntax.specs.rules.Uses.{is_amount, amount_used, sized}
+use Rattle.rsml_syntax.proofs.Clean.{no_front, holds}
 
 -- There is at least one, and there are at most 64.
 pub record IsSmall (n : ℕ) : Type 0 where
@@ -20,7 +20,7 @@ number_small : (z : ℤ) → int_le (pos 1) z ≡ true → int_le z (pos 64) ≡
 number_small (pos n) l m = record { some = let k : 1 ≤ n = grind (arith, ints) in k; few = let k : n ≤ 64 = grind (arith, ints) in k }
 number_small (negsuc n) l m = absurd (let no : ⊥ = grind (arith, ints) in no)
 
-pub size_small : (w : Whole) (place : Scope) (name : Name) (size : Option Amount) → sized w place name size ≡ [] → IsSmall (many w.globals size)
+pub size_small : (w : NameTables) (place : Scope) (name : Name) (size : Option Amount) → sized w place name size ≡ [] → IsSmall (many w.globals size)
 size_small w place name None h = record { some = omega arith; few = omega arith }
 size_small w place name (Some amount) h = by (amount_of w.globals amount) (holds 5 name (is_amount w amount) (no_front (breach 5 name (not (is_amount w amount))) (amount_used w place amount) h))
   where

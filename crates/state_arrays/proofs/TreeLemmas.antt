@@ -4,16 +4,17 @@ use Rattle.std.specs.List.{position_from, range_with_len}
 use Rattle.rsml_syntax.specs.declared.syntax.Amount.{Amount}
 use Rattle.rsml_syntax.specs.declared.syntax.Spec.{Spec}
 use Rattle.rsml_syntax.specs.declared.syntax.Body.{Body, Basic, One', All', Row_of-StateDecl, end_of-StateDecl, more_of-StateDecl}
-use Rattle.rsml_syntax.specs.Checked.{IsChecked}
-use Rattle.rsml_syntax.specs.Names.{Name, same, is_in}
-use Rattle.rsml_syntax.specs.Globals.{Globals, many, indices}
-use Rattle.rsml_syntax.specs.Parts.{inside, row_parts, nearer}
-use Rattle.rsml_syntax.specs.Rules.{refused}
+use Rattle.rsml_syntax.specs.limits.Checked.{IsChecked}
+use Rattle.rsml_syntax.specs.text.Names.{Name, same, is_in}
+use Rattle.rsml_syntax.specs.rules.Globals.{Globals, many, indices}
+use Rattle.rsml_syntax.specs.grammar.Parts.{inside, row_parts, nearer}
+use Rattle.rsml_syntax.specs.rules.Rules.{broken_rule}
 use Rattle.rsml_meaning.specs.Words.{Path, Instance, Each, IsOne, at, child_path}
 use Rattle.rsml_meaning.specs.Instances.{State, globals_of, row_names, new_state, row_inside, subtree, states}
 use Rattle.rsml_meaning.specs.Instances as made
 use Rattle.rsml_meaning.proofs.Same.{name_itself}
-use Rattle.state_nodes.proofs.Clean.{Clean, clean_states, clean_row, each_append, each_flat_map}
+use Rattle.rsml_syntax.proofs.Clean.{Clean, clean_states, clean_row, each_append}
+use Rattle.state_tree.proofs.Lists.{each_flat_map}
 use Rattle.state_arrays.specs.Trees.{PathsDiffer, HasPath, IsStep, IsTree}
 use Rattle.state_arrays.proofs.RangeLemmas.{range_up_to}
 use Rattle.state_arrays.proofs.PathLemmas.{cancel_front}
@@ -214,7 +215,7 @@ module _ (all : List State) (g : Globals) where
         )))
         (row_steps _ others path h (λ x k. are x (one_back x (flat_map (made_by g path name body) (indices g size)) (row_inside g others path) k)))
 
-tree_of : (s : Spec) → refused s ≡ None → IsTree (states s)
+tree_of : (s : Spec) → broken_rule s ≡ None → IsTree (states s)
 tree_of s h =
     let g = globals_of s in
     let top = at s.top 0 ∷ [] in

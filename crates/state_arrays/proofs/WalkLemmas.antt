@@ -2,7 +2,7 @@
 use Rattle.std.proofs.Common.{◌≡◌, ℕ, suc, ◌+◌, ◌≤◌, ◌<◌, List, [], ◌∷◌, ◌++◌, length, take, drop, get_or, Option, Some, None, sym, ap, ◌∙◌, subst}
 use Rattle.std.proofs.Math.Seq.{drop-cons}
 use Rattle.std.proofs.lemmas.List.{take_more, take_all, take-append-drop}
-use Rattle.rsml_syntax.specs.Names.{Name}
+use Rattle.rsml_syntax.specs.text.Names.{Name}
 use Rattle.rsml_meaning.specs.Words.{Path, Instance, at}
 use Rattle.rsml_meaning.specs.Instances.{State}
 use Rattle.state_arrays.specs.Places.{path_place, path_at}

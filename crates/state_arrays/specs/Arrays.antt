@@ -4,7 +4,7 @@ use Rattle.std.specs.Option.{option_and_then}
 use Rattle.std.specs.List.{list_any}
 use Rattle.std.specs.Borrow.{Bor}
 use Rattle.indexmap.specs.IndexMap.{IndexMap, get_by}
-use Rattle.rsml_syntax.specs.Names.{Name, same}
+use Rattle.rsml_syntax.specs.text.Names.{Name, same}
 use Rattle.rsml_meaning.specs.Words.{Instance, at, place_in}
 use Rattle.state_arrays.specs.Ranges.{range, place_from}
 use Rattle.state_arrays.specs.declared.array.Array.{Array}
@@ -23,7 +23,8 @@ has_name xs name = list_any (λ x. same name x.name) xs
 
 -- the place of an instance by the array of its name
 abbrev pub found : {S : Type 0} → IndexMap (Bor Name) Array S → Name → ℕ → Option ℕ
-found m name index = option_and_then (λ a. place_from a.first (range a.indices.low a.indices.high) index) (get_by (λ x. same name x.now) m)
+found m name index =
+    option_and_then (λ a. place_from a.first (range a.indices.low a.indices.high) index) (get_by (λ x. same name x.now) m)
 
 -- Each instance is found at its place, and there are so many.
 pub record AreFound {S : Type 0} (m : IndexMap (Bor Name) Array S) (count : ℕ) : Type 0 where

@@ -3,9 +3,9 @@ use Rattle.std.specs.Prelude.{◌≡◌, ◌+◌, ◌≤◌, false, List, [], �
 use Rattle.rsml_syntax.specs.declared.syntax.Spec.{Spec}
 use Rattle.rsml_syntax.specs.declared.syntax.Decl.{Decl}
 use Rattle.rsml_syntax.specs.declared.syntax.Decl.TheVariants as decl
-use Rattle.rsml_syntax.specs.Names.{Name, is_in}
-use Rattle.rsml_syntax.specs.Globals.{Globals, many, name_of, size_of}
-use Rattle.rsml_counts.specs.PreviousNames.{previous_names}
+use Rattle.rsml_syntax.specs.text.Names.{Name, is_in}
+use Rattle.rsml_syntax.specs.rules.Globals.{Globals, many, name_of, size_of}
+use Rattle.rsml_limits.specs.counts.PreviousNames.{previous_names}
 use Rattle.rsml_meaning.specs.Words.{Instance}
 use Rattle.rsml_meaning.specs.Instances.{State, globals_of, instances, events, states}
 use Rattle.state_arrays.specs.Arrays.{has_name}
@@ -29,10 +29,12 @@ pub record Admits (g : Globals) (xs more : List Instance) (d : Decl) : Type 0 wh
 
 -- what declarations make may be put one behind another
 abbrev pub AreArrays : Globals → (Decl → List Instance) → List Decl → Type 0
-AreArrays g make ds = (before : List Decl) (d : Decl) (after : List Decl) → ds ≡ before ++ (d ∷ after) → Admits g (flat_map make before) (make d) d
+AreArrays g make ds =
+    (before : List Decl) (d : Decl) (after : List Decl) → ds ≡ before ++ (d ∷ after) → Admits g (flat_map make before) (make d) d
 
 -- The instances of a specification: its events, its inputs, the inputs that stand after `previous`, and its states.
-pub record AreNumbered (s : Spec) (event_list input_list previous_list : List Instance) (state_list : List State) : Type 0 where
+pub record AreNumbered
+    (s : Spec) (event_list input_list previous_list : List Instance) (state_list : List State) : Type 0 where
   pub are_events : event_list ≡ events s
   pub are_inputs : input_list ≡ flat_map (inputs_of (globals_of s)) s.decls
   pub are_previous : previous_list ≡ flat_map (previous_of (previous_names s) (globals_of s)) s.decls

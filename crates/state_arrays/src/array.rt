@@ -1,13 +1,13 @@
 ghost use Rattle.std.specs.Prelude.{◌≡◌, ◌≤◌};
 ghost use Rattle.state_arrays.specs.Ranges.{place_from, range};
 
-use crate::indices::Indices;
+use crate::index_range::IndexRange;
 
 /// The instances of one name: the place of the first, and their indices.
 #[derive(Clone, Copy)]
 pub struct Array {
     pub first: u32,
-    pub indices: Indices,
+    pub indices: IndexRange,
     ghost room: { first ≤ 1024 },
 }
 

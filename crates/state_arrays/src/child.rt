@@ -1,6 +1,6 @@
 ghost use Rattle.state_arrays.specs.Children.{IsChildAt};
 
-use state_nodes::Nodes;
+use state_tree::Nodes;
 
 /// A state instance by the number of the one around it, and its own name and index.
 #[derive(Clone, Copy, PartialEq, Eq, Hash)]

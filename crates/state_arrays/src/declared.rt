@@ -2,9 +2,9 @@ ghost use Rattle.std.specs.Prelude.{◌≡◌, ◌++◌, IfOk, flat_map};
 ghost use Rattle.rsml_meaning.specs.Instances as instances;
 ghost use Rattle.state_arrays.specs.Made.{AreArrays, Admits, inputs_of, previous_of};
 
-use crate::indices::Indices;
+use crate::index_range::IndexRange;
 use crate::instances::Instances;
-use rsml_names::{Globals, Names};
+use rsml_names::{Globals, NameList};
 use rsml_syntax::{Decl, NoMemory};
 use std::alloc::Global;
 
@@ -19,7 +19,7 @@ fn with_event<'a>(
 {
     match decl {
         Decl::Event { name, size } => {
-            events.with(name.bytes(), Indices::of(globals, size.as_ref()))
+            events.with(name.bytes(), IndexRange::new(globals, size.as_ref()))
         }
         _ => Ok(events),
     }
@@ -52,7 +52,7 @@ fn with_input<'a>(
 {
     match decl {
         Decl::Input { name, size, .. } => {
-            inputs.with(name.bytes(), Indices::of(globals, size.as_ref()))
+            inputs.with(name.bytes(), IndexRange::new(globals, size.as_ref()))
         }
         _ => Ok(inputs),
     }
@@ -74,11 +74,12 @@ pub fn inputs<'a>(
     Ok(inputs)
 }
 
-/// These instances, and the inputs of one more declaration where its name is among the previous ones.
+/// These instances, and the inputs of one more declaration where its name is among the previous
+/// ones.
 fn with_previous<'a>(
     inputs: Instances<'a>,
     globals: &Globals<'_>,
-    previous: &Names<'_>,
+    previous: &NameList<'_>,
     decl: &'a Decl,
 ) -> Result<Instances<'a>, NoMemory>
     requires { Admits globals.now inputs (previous_of previous.now globals.now decl.now) decl.now }
@@ -88,7 +89,7 @@ fn with_previous<'a>(
     match decl {
         Decl::Input { name, size, .. } => {
             if previous.has(name.bytes()) {
-                inputs.with(name.bytes(), Indices::of(globals, size.as_ref()))
+                inputs.with(name.bytes(), IndexRange::new(globals, size.as_ref()))
             } else {
                 Ok(inputs)
             }
@@ -101,7 +102,7 @@ fn with_previous<'a>(
 pub fn previous_inputs<'a>(
     alloc: Global,
     globals: &Globals<'_>,
-    previous: &Names<'_>,
+    previous: &NameList<'_>,
     decls: &'a [Decl],
 ) -> Result<Instances<'a>, NoMemory>
     requires { AreArrays globals.now (previous_of previous.now globals.now) decls.now }

@@ -4,7 +4,7 @@ ghost use Rattle.state_arrays.specs.Arrays.{has_name};
 ghost use Rattle.state_arrays.specs.Ranges.{range};
 
 use crate::array::Array;
-use crate::indices::Indices;
+use crate::index_range::IndexRange;
 use indexmap::IndexMap;
 use rsml_syntax::NoMemory;
 use std::alloc::Global;
@@ -60,10 +60,11 @@ impl<'a> Instances<'a> {
     }
 
     /// These instances, and behind them those of one more name.
-    pub fn with(self, name: &'a [u8], indices: Indices) -> Result<Instances<'a>, NoMemory>
+    pub fn with(self, name: &'a [u8], indices: IndexRange) -> Result<Instances<'a>, NoMemory>
         requires new { has_name self name.now ≡ false }
         requires room { length self + length (range indices.low indices.high) ≤ 1024 }
-        ensures { IfOk result (λ r. r ≡ self.entry ++ map (at name.now) (range indices.low indices.high)) }
+        ensures { IfOk result (λ r.
+            r ≡ self.entry ++ map (at name.now) (range indices.low indices.high)) }
     {
         let Instances { mut arrays, count } = self;
         let array = Array {

@@ -7,7 +7,7 @@ ghost use Rattle.state_arrays.specs.Places.{cell_place, previous_place, path_pla
 use crate::declared::{events, inputs, previous_inputs};
 use crate::instances::Instances;
 use crate::paths::Paths;
-use rsml_counts::previous_names;
+use rsml_limits::previous_names;
 use rsml_names::Globals;
 use rsml_syntax::{Checked, NoMemory, Path, Spec};
 use std::alloc::Global;
@@ -46,12 +46,12 @@ impl<'a> Names<'a> {
     {
         let spec = checked.spec();
         let decls = spec.decls.as_slice();
-        let globals = Globals::of(alloc, decls)?;
+        let globals = Globals::new(alloc, decls)?;
         let after_previous = previous_names(alloc, spec)?;
         let events = events(alloc, &globals, decls)?;
         let inputs = inputs(alloc, &globals, decls)?;
         let previous = previous_inputs(alloc, &globals, &after_previous, decls)?;
-        let paths = Paths::of(alloc, checked)?;
+        let paths = Paths::new(alloc, checked)?;
         Ok(Names {
             spec,
             events,

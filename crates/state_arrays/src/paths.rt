@@ -1,6 +1,6 @@
 ghost use Rattle.std.specs.Prelude.{◌≡◌, IfOk, IfSome, Some};
 ghost use Rattle.std.specs.Option.{option_map};
-ghost use Rattle.rsml_syntax.specs.Checked.{IsChecked};
+ghost use Rattle.rsml_syntax.specs.limits.Checked.{IsChecked};
 ghost use Rattle.rsml_meaning.specs.Instances.{states};
 ghost use Rattle.state_arrays.specs.Places.{path_place, path_at};
 ghost use Rattle.state_arrays.specs.Trees.{IsTree};
@@ -9,7 +9,7 @@ ghost use Rattle.state_arrays.specs.Children.{AreNumbers};
 use crate::child::{Child, child_at};
 use indexmap::IndexMap;
 use rsml_syntax::{Checked, List, NoMemory, Path, Step, Text};
-use state_nodes::{Nodes, Step as Place};
+use state_tree::{Nodes, StepRef};
 use std::alloc::Global;
 use std::marker::Model;
 
@@ -35,7 +35,10 @@ impl<'a> Model for Paths<'a> {
 
     ghost view = { λ p. p.nodes };
 
-    ghost invariant = { λ p. record { tree : IsTree p.nodes; numbers : AreNumbers p.nodes p.nodes p.numbers } };
+    ghost invariant = { λ p. record {
+      tree : IsTree p.nodes;
+      numbers : AreNumbers p.nodes p.nodes p.numbers;
+    } };
 }
 
 /// The number of each node, as a child of the one around it.
@@ -54,11 +57,11 @@ fn numbers_of<'a>(alloc: Global, nodes: &Nodes<'a>) -> Result<IndexMap<Child<'a>
 
 impl<'a> Paths<'a> {
     /// The state instances of a specification.
-    pub fn of(alloc: Global, checked: &'a Checked) -> Result<Paths<'a>, NoMemory>
+    pub fn new(alloc: Global, checked: &'a Checked) -> Result<Paths<'a>, NoMemory>
         requires { IsChecked checked.now }
         ensures { IfOk result (λ paths. paths ≡ states checked.now) }
     {
-        let nodes = Nodes::build(alloc, checked)?;
+        let nodes = Nodes::new(alloc, checked)?;
         let numbers = numbers_of(alloc, &nodes)?;
         Ok(Paths { nodes, numbers })
     }
@@ -97,7 +100,7 @@ impl<'a> Paths<'a> {
 }
 
 /// A copy of the steps of a path.
-fn copied(alloc: Global, steps: &[Place<'_>]) -> Result<List<Step>, NoMemory>
+fn copied(alloc: Global, steps: &[StepRef<'_>]) -> Result<List<Step>, NoMemory>
     ensures { IfOk result (λ copy. copy ≡ steps.now) }
 {
     let mut copy = List::new(alloc);

@@ -9,7 +9,8 @@ use Rattle.rsml_meaning.specs.Words.{Path, at, child_path, same_instance, same_p
 use Rattle.rsml_meaning.specs.Instances.{Component, components}
 use Rattle.rsml_meaning.specs.Active.{active, leads_on, chosen}
 use Rattle.state_tree.specs.Numbers.{leads_here, leads_to}
-use Rattle.state_tree.proofs.Prefixes.{prefix_rest, prefix_append, proper_append, linear, prefix_self, same_path_self, prefix_under, not_true}
+use Rattle.rsml_meaning.proofs.Prefixes.{prefix_rest, prefix_append, proper_append, linear, prefix_self, same_path_self, prefix_under}
+use Rattle.state_tree.proofs.Lists.{not_true}
 
 -- a path is no shorter than itself
 not_longer : (a : Path) → nat_lt (length a) (length a) ≡ false

@@ -7,18 +7,18 @@ use Rattle.rsml_syntax.specs.declared.syntax.Spec.{Spec}
 use Rattle.rsml_syntax.specs.declared.syntax.Amount.{Amount}
 use Rattle.rsml_syntax.specs.declared.syntax.StateDecl.{StateDecl}
 use Rattle.rsml_syntax.specs.declared.syntax.Body.{Body, Basic, One', All', Row_of-StateDecl, end_of-StateDecl, more_of-StateDecl, items-the_row-StateDecl}
-use Rattle.rsml_syntax.specs.Names.{Name}
-use Rattle.rsml_syntax.specs.Globals.{indices}
-use Rattle.rsml_syntax.specs.Parts.{nearer, row_parts, children_of, default_of, is_basic}
-use Rattle.rsml_syntax.specs.Parts as part
-use Rattle.rsml_syntax.specs.States.{is_composed}
-use Rattle.rsml_syntax.specs.Owners.{is_count}
-use Rattle.rsml_syntax.specs.Checked.{IsChecked}
+use Rattle.rsml_syntax.specs.text.Names.{Name}
+use Rattle.rsml_syntax.specs.rules.Globals.{indices}
+use Rattle.rsml_syntax.specs.grammar.Parts.{nearer, row_parts, children_of, default_of, is_basic}
+use Rattle.rsml_syntax.specs.grammar.Parts as part
+use Rattle.rsml_syntax.specs.rules.States.{is_composed}
+use Rattle.rsml_syntax.specs.rules.Owners.{is_count}
+use Rattle.rsml_syntax.specs.limits.Checked.{IsChecked}
 use Rattle.rsml_meaning.specs.Words.{Each, IsOne, Path, at, child_path}
 use Rattle.rsml_meaning.specs.Instances.{State, Component, globals_of, new_state, component_of, row_names, row_inside, states, components}
 use Rattle.rsml_meaning.specs.Instances as made
-use Rattle.state_nodes.proofs.Clean.{Clean, clean_states, clean_row, opened, each_append, each_flat_map}
-use Rattle.state_tree.proofs.Lists.{one_at}
+use Rattle.rsml_syntax.proofs.Clean.{Clean, clean_states, clean_row, opened, each_append}
+use Rattle.state_tree.proofs.Lists.{one_at, each_flat_map}
 use Rattle.state_tree.proofs.Spread.{made_by}
 
 -- the names of a row of children
@@ -111,7 +111,7 @@ mutual
       )))
       (row_good s xs _ others in_one array (earlier ++ (name ∷ [])) path r.after (λ y k. are y (one_back y (flat_map f (indices g size)) rest k)))
 
-each_one : {A : Type 0} (P : A → Type 0) (xs : List A) (x : A) → Each P xs → IsOne x xs → P x
+pub each_one : {A : Type 0} (P : A → Type 0) (xs : List A) (x : A) → Each P xs → IsOne x xs → P x
 each_one P [] x h m = absurd m
 each_one P (y ∷ ys) x h (inl e) = subst P (sym e) h.0
 each_one P (y ∷ ys) x h (inr m) = each_one P ys x h.1 m

@@ -1,21 +1,22 @@
 -- Components and the numbers of their children.
 use Rattle.std.proofs.Common.{◌≡◌, ℕ, zero, suc, ◌+◌, ◌<◌, ◌≤◌, List, [], ◌∷◌, ◌++◌, map, length, take, get_or, Option, Some, None, inl, inr, ⊎_elim, refl, sym, ap, ◌∙◌, subst, slice_get, slice_index_or, unwrap_or, arith, append-nil}
 use Rattle.std.specs.List.{cons_option, AllZip}
-use Rattle.std.specs.Option.{option_and_then}
+use Rattle.std.specs.Option.{option_map, option_and_then}
 use Rattle.std.proofs.lemmas.Option.{same_Some}
 use Rattle.std.proofs.lemmas.List.{length-map, take_more, take_all, map_push}
 use Rattle.rsml_syntax.specs.declared.syntax.Spec.{Spec}
 use Rattle.rsml_syntax.specs.declared.syntax.StateDecl.{StateDecl}
 use Rattle.rsml_syntax.specs.declared.syntax.Body.{Body, Basic, One', All'}
-use Rattle.rsml_syntax.specs.Names.{Name, place_of}
-use Rattle.rsml_syntax.specs.Parts.{children_of, default_of}
-use Rattle.rsml_syntax.specs.Checked.{IsChecked}
+use Rattle.rsml_syntax.specs.text.Names.{Name, place_of}
+use Rattle.rsml_syntax.specs.grammar.Parts.{children_of, default_of}
+use Rattle.rsml_syntax.specs.limits.Checked.{IsChecked}
 use Rattle.rsml_meaning.specs.Words.{Path, Each, IsOne, at, child_path}
 use Rattle.rsml_meaning.specs.Instances.{State, Component, component_of, row_names, states}
-use Rattle.state_nodes.specs.Numbers.{paths, components_of, component_at, IsBody}
-use Rattle.state_nodes.proofs.Numbering.{components_append}
+use Rattle.state_tree.specs.nodes.Numbers.{paths, components_of, component_at}
+use Rattle.state_tree.proofs.Numbering.{components_append}
 use Rattle.state_tree.specs.Tables.{Family, IsFamily, IsFamilyOf, AreRising, AreFamilies, HasChildNamed, IsChildNamed}
 use Rattle.state_tree.proofs.Lists.{get_map, place_of_one, beside, as_long, zip_push}
+use Rattle.state_tree.proofs.Bodies.{body_component}
 use Rattle.state_tree.proofs.Goods.{good_at, IsGood, names_of_row}
 use Rattle.state_tree.proofs.Spread.{get_parts}
 
@@ -23,27 +24,37 @@ abbrev pub names : List StateDecl → List Name
 names cs = map (λ (c : StateDecl). c.name) cs
 
 -- the component that a body with a default child is
-component_is : (body : Body) (path : Path) (first : Name) → default_of body ≡ Some first → (c : Component) × (component_of body path ≡ Some c) × (c.first ≡ first) × (c.children ≡ names (children_of body))
+component_is : (body : Body) (path : Path) (first : Name) → default_of body ≡ Some first → (c : Component) × (component_of body path ≡ Some c) × (c.default ≡ first) × (c.children ≡ names (children_of body))
 component_is Basic path first h = absurd (let no : ⊥ = cc in no)
 component_is (All' shape row) path first h = absurd (let no : ⊥ = cc in no)
-component_is (One' f shape row bs ts) path first h = (record { path = path; first = f; children = _; buses = bs; transitions = ts }, refl, same_Some f first h, names_of_row _ row)
+component_is (One' f shape row bs ts) path first h = (record { path = path; default = f; children = _; buses = bs; transitions = ts }, refl, same_Some f first h, names_of_row _ row)
 
 no_component : (body : Body) (path : Path) → default_of body ≡ None → component_of body path ≡ None
 no_component Basic path h = refl
 no_component (All' shape row) path h = refl
 no_component (One' f shape row bs ts) path h = absurd (let no : ⊥ = cc in no)
 
+-- the state of this number has this body
+abbrev pub HasBody : List State → ℕ → Body → Type 0
+HasBody xs node body = Some body ≡ option_map (λ (x : State). x.body) (slice_get xs node)
+
+-- the component of a state by what is known to be its body
+its_component : (s : Spec) (node : ℕ) (x : State) (body : Body) → slice_get (states s) node ≡ Some x → HasBody (states s) node body → x.component ≡ component_of body x.path
+its_component s node x body e b =
+    let same : body ≡ x.body = same_Some body x.body (b ∙ ap (option_map (λ (y : State). y.body)) e) in
+    body_component s node x e ∙ ap (λ d. component_of d x.path) (sym same)
+
 -- What is known of a state with a body that has a default child.
 pub record IsOneState (s : Spec) (node : ℕ) (body : Body) (first : Name) (c : Component) : Type 0 where
   pub here : component_at (states s) node ≡ Some c
   pub path : slice_get (paths (states s)) node ≡ Some c.path
-  pub default : c.first ≡ first
+  pub default : c.default ≡ first
   pub children : c.children ≡ names (children_of body)
   pub few : length (children_of body) ≤ 64
   pub there : Each (HasChildNamed (paths (states s)) node) (names (children_of body))
 
-pub one_state : (s : Spec) (node : ℕ) (body : Body) (first : Name) → IsChecked s → IsBody (slice_get (states s) node) (Some body) → default_of body ≡ Some first → (c : Component) × IsOneState s node body first c
-one_state s node body first h b d = by_state (slice_get (states s) node) refl b
+pub one_state : (s : Spec) (node : ℕ) (body : Body) (first : Name) → IsChecked s → HasBody (states s) node body → default_of body ≡ Some first → (c : Component) × IsOneState s node body first c
+one_state s node body first h b d = by_state (slice_get (states s) node) refl
   where
     one_there : (x : State) → slice_get (paths (states s)) node ≡ Some x.path → {c : Component} → IsGood (states s) x.path c → (n : Name) → IsOne n c.children → HasChildNamed (paths (states s)) node n
     one_there x p g n m =
@@ -55,11 +66,14 @@ one_state s node body first h b d = by_state (slice_get (states s) node) refl b
     all_there [] f = tt
     all_there (n ∷ ns) f = (f n (inl refl), all_there ns (λ y m. f y (inr m)))
 
-    by_state : (o : Option State) → slice_get (states s) node ≡ o → IsBody o (Some body) → (c : Component) × IsOneState s node body first c
-    by_state None e k = absurd k
-    by_state (Some x) e k =
+    by_state : (o : Option State) → slice_get (states s) node ≡ o → (c : Component) × IsOneState s node body first c
+    by_state None e = absurd (no_body (b ∙ ap (option_map (λ (y : State). y.body)) e))
+      where
+        no_body : Some body ≡ None → ⊥
+        no_body k = cc
+    by_state (Some x) e =
         let r = component_is body x.path first d in
-        let has : x.component ≡ Some r.0 = ap (λ (y : State). y.component) k ∙ r.1 in
+        let has : x.component ≡ Some r.0 = its_component s node x body e b ∙ r.1 in
         let g = good_at s h node x r.0 e has in
         let p = get_map (λ (y : State). y.path) (states s) node x e in (
           r.0,
@@ -79,11 +93,11 @@ get_index (y ∷ xs) zero x d h = same_Some y x h
 get_index (y ∷ xs) (suc i) x d h = get_index xs i x d h
 
 pub family_is : (s : Spec) (node : ℕ) (body : Body) (first : Name) (c : Component) (place : ℕ) (numbers : List ℕ) → IsOneState s node body first c → place ≡ unwrap_or (place_of first (names (children_of body))) 0
-    → AllZip (IsChildNamed (paths (states s)) node) (names (children_of body)) numbers → IsFamily s c (record { node = node; first = place; children = numbers })
+    → AllZip (IsChildNamed (paths (states s)) node) (names (children_of body)) numbers → IsFamily s c (record { node = node; default = place; children = numbers })
 family_is s node body first c place numbers h e all = record {
   here = h.here;
   path = h.path;
-  first = e ∙ ap (λ (n : Name). unwrap_or (place_of n (names (children_of body))) 0) (sym h.default) ∙ ap (λ (ns : List Name). unwrap_or (place_of c.first ns) 0) (sym h.children);
+  default = e ∙ ap (λ (n : Name). unwrap_or (place_of n (names (children_of body))) 0) (sym h.default) ∙ ap (λ (ns : List Name). unwrap_or (place_of c.default ns) 0) (sym h.children);
   many = sym (ap length h.children ∙ as_long (IsChildNamed (paths (states s)) node) (names (children_of body)) numbers all);
   few = subst (λ n. n ≤ 64) (sym (ap length h.children ∙ length-map (children_of body) (λ (d : StateDecl). d.name))) h.few;
   children = λ k m g.
@@ -193,27 +207,44 @@ all_families s xs n fs e l h = record {
   rising = h.rising;
 }
 
-pub one_state_in : (s : Spec) (xs : List State) (node : ℕ) (body : Body) (first : Name) → IsChecked s → xs ≡ states s → IsBody (slice_get xs node) (Some body) → Some first ≡ default_of body → (c : Component) × IsOneState s node body first c
-one_state_in s xs node body first h e b d = one_state s node body first h (subst (λ (ys : List State). IsBody (slice_get ys node) (Some body)) e b) (sym d)
+pub one_state_in : (s : Spec) (xs : List State) (node : ℕ) (body : Body) (first : Name) → IsChecked s → xs ≡ states s → HasBody xs node body → Some first ≡ default_of body → (c : Component) × IsOneState s node body first c
+one_state_in s xs node body first h e b d = one_state s node body first h (subst (λ (ys : List State). HasBody ys node body) e b) (sym d)
 
 pub family_of : (s : Spec) (xs : List State) (node : ℕ) (body : Body) (first : Name) (cs : List StateDecl) (place : ℕ) (numbers : List ℕ) → xs ≡ states s → cs ≡ children_of body → (r : (c : Component) × IsOneState s node body first c)
-    → place ≡ unwrap_or (place_of first (names cs)) 0 → AllZip (IsChildNamed (paths xs) node) (names cs) numbers → IsFamilyOf s node (component_at xs node) (Some (record { node = node; first = place; children = numbers }))
+    → place ≡ unwrap_or (place_of first (names cs)) 0 → AllZip (IsChildNamed (paths xs) node) (names cs) numbers → IsFamilyOf s node (component_at xs node) (Some (record { node = node; default = place; children = numbers }))
 family_of s xs node body first cs place numbers e d r p all =
     let f = family_is s node body first r.0 place numbers r.1 (p ∙ ap (λ (ds : List StateDecl). unwrap_or (place_of first (names ds)) 0) d)
     (subst (λ (ds : List StateDecl). AllZip (IsChildNamed (paths (states s)) node) (names ds) numbers) d (subst (λ (ys : List State). AllZip (IsChildNamed (paths ys) node) (names cs) numbers) e all)) in
-    subst (λ o. IsFamilyOf s node o (Some (record { node = node; first = place; children = numbers }))) (sym (ap (λ (ys : List State). component_at ys node) e ∙ r.1.here)) (f, refl)
+    subst (λ o. IsFamilyOf s node o (Some (record { node = node; default = place; children = numbers }))) (sym (ap (λ (ys : List State). component_at ys node) e ∙ r.1.here)) (f, refl)
 
 component_children : (body : Body) (path : Path) (c : Component) → component_of body path ≡ Some c → c.children ≡ names (children_of body)
 component_children Basic path c h = absurd (let no : ⊥ = cc in no)
 component_children (All' shape row) path c h = absurd (let no : ⊥ = cc in no)
 component_children (One' f shape row bs ts) path c h =
-    sym (ap (λ (d : Component). d.children) (same_Some (record { path = path; first = f; children = row_names row; buses = bs; transitions = ts }) c h)) ∙ names_of_row _ row
+    sym (ap (λ (d : Component). d.children) (same_Some (record { path = path; default = f; children = row_names row; buses = bs; transitions = ts }) c h)) ∙ names_of_row _ row
 
-pub children_are : (s : Spec) (xs : List State) (node : ℕ) (body : Body) (c : Component) (cs : List StateDecl) → xs ≡ states s → IsBody (slice_get xs node) (Some body) → component_at (states s) node ≡ Some c → cs ≡ children_of body → names cs ≡ c.children
-children_are s xs node body c cs e b h d = by_state (slice_get xs node) refl b
+pub children_are : (s : Spec) (xs : List State) (node : ℕ) (body : Body) (c : Component) (cs : List StateDecl) → xs ≡ states s → HasBody xs node body → component_at (states s) node ≡ Some c → cs ≡ children_of body → names cs ≡ c.children
+children_are s xs node body c cs e b h d = by_state (slice_get (states s) node) refl
   where
-    by_state : (o : Option State) → slice_get xs node ≡ o → IsBody o (Some body) → names cs ≡ c.children
-    by_state None q k = absurd k
-    by_state (Some x) q k =
-        let has : component_of body x.path ≡ Some c = sym (ap (λ (y : State). y.component) k) ∙ sym (ap (λ o. option_and_then (λ (y : State). y.component) o) q) ∙ ap (λ (ys : List State). component_at ys node) e ∙ h in
+    by_state : (o : Option State) → slice_get (states s) node ≡ o → names cs ≡ c.children
+    by_state None q = absurd (no_component_there (sym (ap (option_and_then (λ (y : State). y.component)) q) ∙ h))
+      where
+        no_component_there : None ≡ Some c → ⊥
+        no_component_there k = cc
+    by_state (Some x) q =
+        let its = its_component s node x body q (subst (λ (ys : List State). HasBody ys node body) e b) in
+        let has : component_of body x.path ≡ Some c = sym its ∙ sym (ap (option_and_then (λ (y : State). y.component)) q) ∙ h in
         ap names d ∙ sym (component_children body x.path c has)
+
+-- a state whose body has no default child is no component
+pub no_family : (s : Spec) (xs : List State) (node : ℕ) (body : Body) → xs ≡ states s → HasBody xs node body → None ≡ default_of body → IsFamilyOf s node (component_at xs node) None
+no_family s xs node body e b d = by_state (slice_get (states s) node) refl
+  where
+    none_here : component_at (states s) node ≡ None → IsFamilyOf s node (component_at xs node) None
+    none_here k = subst (λ o. IsFamilyOf s node o None) (sym (ap (λ (ys : List State). component_at ys node) e ∙ k)) tt
+
+    by_state : (o : Option State) → slice_get (states s) node ≡ o → IsFamilyOf s node (component_at xs node) None
+    by_state None q = none_here (ap (option_and_then (λ (y : State). y.component)) q)
+    by_state (Some x) q =
+        let its = its_component s node x body q (subst (λ (ys : List State). HasBody ys node body) e b) in
+        none_here (ap (option_and_then (λ (y : State). y.component)) q ∙ its ∙ no_component body x.path (sym d))

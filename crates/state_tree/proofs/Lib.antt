@@ -1,10 +1,15 @@
+pub mod Above
 pub mod ActiveStep
+pub mod Bodies
+pub mod Depths
 pub mod Entry
 pub mod Fitting
 pub mod Goods
 pub mod Kin
 pub mod Lists
-pub mod Prefixes
+pub mod NodeFitting
+pub mod Numbering
+pub mod Sized
 pub mod Spans
 pub mod Spread
 pub mod Walks

@@ -1,8 +1,9 @@
 -- Words on lists.
-use Rattle.std.proofs.Common.{◌≡◌, ℕ, zero, suc, ◌+◌, ◌<◌, Bool, true, false, ◌&&◌, List, [], ◌∷◌, ◌++◌, map, length, zip, Some, inl, inr, refl, sym, ap, ◌∙◌, subst, slice_get, get_or, drop, add-one, arith}
+use Rattle.std.proofs.Common.{◌≡◌, ℕ, zero, suc, ◌+◌, ◌<◌, Bool, true, false, ◌&&◌, List, [], ◌∷◌, ◌++◌, map, length, zip, Some, inl, inr, refl, sym, ap, ◌∙◌, subst, slice_get, get_or, drop, flat_map, add-one, arith}
 use Rattle.std.specs.List.{list_all, AllZip}
 use Rattle.std.proofs.lemmas.Option.{same_Some}
-use Rattle.rsml_meaning.specs.Words.{IsOne}
+use Rattle.rsml_syntax.proofs.Clean.{each_append}
+use Rattle.rsml_meaning.specs.Words.{Each, IsOne}
 
 -- what stands at a place is one of the items
 pub one_at : {A : Type 0} (xs : List A) (i : ℕ) (x : A) → slice_get xs i ≡ Some x → IsOne x xs
@@ -106,3 +107,19 @@ pub get_item : {A : Type 0} (cs : List A) (i : ℕ) (c : A) → i < length cs �
 get_item [] i c h e = absurd (omega (arith, h))
 get_item (d ∷ cs) zero c h e = ap (λ x. Some x) (sym e)
 get_item (d ∷ cs) (suc i) c h e = get_item cs i c (omega (arith, h)) e
+
+pub each_flat_map : {A B : Type 0} (P : B → Type 0) (f : A → List B) (xs : List A) → ((x : A) → IsOne x xs → Each P (f x)) → Each P (flat_map f xs)
+each_flat_map P f [] h = tt
+each_flat_map P f (x ∷ xs) h = each_append P (f x) (flat_map f xs) (h x (inl refl)) (each_flat_map P f xs (λ y m. h y (inr m)))
+
+-- Tests.
+
+pub not_true : (b : Bool) → (b ≡ true → ⊥) → b ≡ false
+not_true true f = absurd (f refl)
+not_true false f = refl
+
+-- tests that give each other are one
+pub same_truth : (a b : Bool) → (a ≡ true → b ≡ true) → (b ≡ true → a ≡ true) → a ≡ b
+same_truth true b f g = sym (f refl)
+same_truth false true f g = g refl
+same_truth false false f g = refl

@@ -5,15 +5,15 @@ use Rattle.std.proofs.lemmas.Bool.Decides.{nat_tests}
 use Rattle.std.proofs.lemmas.Option.{same_Some}
 use Rattle.rsml_syntax.specs.declared.syntax.Spec.{Spec}
 use Rattle.rsml_syntax.specs.declared.world.Step.{Step}
-use Rattle.rsml_syntax.specs.Names.{Name}
-use Rattle.rsml_syntax.specs.Checked.{IsChecked}
+use Rattle.rsml_syntax.specs.text.Names.{Name}
+use Rattle.rsml_syntax.specs.limits.Checked.{IsChecked}
 use Rattle.rsml_meaning.specs.Words.{Path, at, child_path, is_prefix}
 use Rattle.rsml_meaning.specs.Instances.{State, states}
 use Rattle.std.proofs.lemmas.List.{length-map}
-use Rattle.state_nodes.specs.Numbers.{paths}
+use Rattle.state_tree.specs.nodes.Numbers.{paths}
 use Rattle.state_tree.specs.Tables.{IsEnd, HasChildNamed}
 use Rattle.state_tree.proofs.Lists.{get_within}
-use Rattle.state_tree.proofs.Prefixes.{prefix_self, prefix_append, prefix_rest, longer}
+use Rattle.rsml_meaning.proofs.Prefixes.{prefix_self, prefix_append, prefix_rest, longer}
 use Rattle.state_tree.proofs.Spread.{end_is, get_parts}
 
 inside_test : (a j e : ℕ) → a ≤ j → j < e → (nat_le a j && nat_lt j e) ≡ true

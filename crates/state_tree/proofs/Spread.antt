@@ -7,19 +7,19 @@ use Rattle.rsml_syntax.specs.declared.syntax.Spec.{Spec}
 use Rattle.rsml_syntax.specs.declared.syntax.Amount.{Amount}
 use Rattle.rsml_syntax.specs.declared.syntax.Body.{Body, Basic, One', All', Row_of-StateDecl, end_of-StateDecl, more_of-StateDecl}
 use Rattle.rsml_syntax.specs.declared.world.Step.{Step}
-use Rattle.rsml_syntax.specs.Names.{Name, same, is_in}
-use Rattle.rsml_syntax.specs.Globals.{Globals, indices, many, up_to}
-use Rattle.rsml_syntax.specs.Parts.{nearer, row_parts}
-use Rattle.rsml_syntax.specs.Parts as part
-use Rattle.rsml_syntax.specs.Checked.{IsChecked}
+use Rattle.rsml_syntax.specs.text.Names.{Name, same, is_in}
+use Rattle.rsml_syntax.specs.rules.Globals.{Globals, indices, many, up_to}
+use Rattle.rsml_syntax.specs.grammar.Parts.{nearer, row_parts}
+use Rattle.rsml_syntax.specs.grammar.Parts as part
+use Rattle.rsml_syntax.specs.limits.Checked.{IsChecked}
 use Rattle.rsml_meaning.specs.Words.{Each, IsOne, Path, at, child_path, is_prefix}
 use Rattle.rsml_meaning.specs.Instances.{State, globals_of, new_state, row_inside, subtree, states}
 use Rattle.rsml_meaning.specs.Instances as made
 use Rattle.rsml_meaning.proofs.Same.{name_itself}
-use Rattle.state_nodes.specs.Numbers.{paths}
-use Rattle.state_nodes.proofs.Clean.{Clean, clean_states, clean_row, each_append, each_flat_map}
-use Rattle.state_tree.proofs.Lists.{one_at, get_of_map}
-use Rattle.state_tree.proofs.Prefixes.{not_true, prefix_append, prefix_self, prefix_length, parted, longer}
+use Rattle.state_tree.specs.nodes.Numbers.{paths}
+use Rattle.rsml_syntax.proofs.Clean.{Clean, clean_states, clean_row, each_append}
+use Rattle.rsml_meaning.proofs.Prefixes.{prefix_append, prefix_self, prefix_length, parted, longer}
+use Rattle.state_tree.proofs.Lists.{one_at, get_of_map, each_flat_map, not_true}
 
 -- Names in lists.
 

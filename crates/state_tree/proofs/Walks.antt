@@ -11,20 +11,21 @@ use Rattle.std.proofs.lemmas.List.{length-map}
 use Rattle.rsml_syntax.specs.declared.syntax.Spec.{Spec}
 use Rattle.rsml_syntax.specs.declared.world.World.{World}
 use Rattle.rsml_syntax.specs.declared.world.Step.{Step}
-use Rattle.rsml_syntax.specs.Checked.{IsChecked}
+use Rattle.rsml_syntax.specs.limits.Checked.{IsChecked}
 use Rattle.rsml_meaning.specs.Words.{Path, at, child_path, is_prefix, is_proper_prefix, same_path}
 use Rattle.rsml_meaning.specs.Instances.{State, Component, states, components}
 use Rattle.rsml_meaning.specs.Active.{chosen, active, leads_on}
 use Rattle.rsml_meaning.specs.Worlds.{is_choice}
-use Rattle.state_nodes.specs.Numbers.{paths, components_of, component_at, path_around, path_above, IsPlace}
-use Rattle.state_nodes.proofs.Sized.{all_fit}
+use Rattle.state_tree.specs.nodes.Numbers.{paths, components_of, component_at, path_around, path_above, IsPlace}
+use Rattle.state_tree.proofs.Sized.{all_fit}
 use Rattle.state_tree.specs.Numbers.{path_of, leads_here, leads_to, AreChoices, HasChild}
 use Rattle.state_tree.proofs.Kin.{get_index, index_there}
 use Rattle.state_tree.specs.Tables.{AreEnds, Family, IsFamily, HasFamily, AreFamilies}
 use Rattle.state_tree.proofs.ActiveStep.{active_step}
 use Rattle.state_tree.proofs.Goods.{good_at}
-use Rattle.state_tree.proofs.Lists.{beside, as_long, get_within, within_get, get_item, get_map, get_of_map, get_zip, get_of_zip, all_pass, one_decides}
-use Rattle.state_tree.proofs.Prefixes.{not_true, same_truth, same_path_is, same_path_self, whole_prefix, prefix_self, above_is, above_none}
+use Rattle.state_tree.proofs.Lists.{beside, as_long, get_within, within_get, get_item, get_map, get_of_map, get_zip, get_of_zip, all_pass, one_decides, not_true, same_truth}
+use Rattle.rsml_meaning.proofs.Prefixes.{same_path_is, same_path_self, whole_prefix, prefix_self}
+use Rattle.state_tree.proofs.Above.{above_is, above_none}
 use Rattle.state_tree.proofs.Spread.{one_place, some_steps}
 
 -- no more components than states

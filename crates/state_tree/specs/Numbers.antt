@@ -9,7 +9,7 @@ use Rattle.rsml_meaning.specs.Words.{Path, child_path, same_path, is_prefix}
 use Rattle.rsml_meaning.specs.Instances.{Component, states, components}
 use Rattle.rsml_meaning.specs.Active.{chosen, active}
 use Rattle.rsml_meaning.specs.Worlds.{is_choice}
-use Rattle.state_nodes.specs.Numbers.{paths}
+use Rattle.state_tree.specs.nodes.Numbers.{paths}
 
 -- the path of the state of this number
 abbrev pub path_of : Spec → ℕ → Path
@@ -21,7 +21,8 @@ component_path s component = unwrap_or (slice_get (map (λ c. c.path) (component
 
 -- the component of this number has a child at this place
 abbrev pub HasChild : Spec → ℕ → ℕ → Type 0
-HasChild s component place = (c : Component) × (slice_get (components s) component ≡ Some c) × (place < length c.children)
+HasChild s component place =
+    (c : Component) × (slice_get (components s) component ≡ Some c) × (place < length c.children)
 
 -- one child for each component
 abbrev pub AreChoices : Spec → List ℕ → Type 0

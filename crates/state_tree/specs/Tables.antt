@@ -2,17 +2,18 @@
 use Rattle.std.specs.Prelude.{◌≡◌, ℕ, ◌<◌, ◌≤◌, ◌&&◌, ⊤, List, length, Option, Some, None, slice_get, nat_le, nat_lt}
 use Rattle.std.specs.List.{AllZip}
 use Rattle.rsml_syntax.specs.declared.syntax.Spec.{Spec}
-use Rattle.rsml_syntax.specs.Names.{Name}
-use Rattle.rsml_syntax.specs.Checked.{IsChecked}
+use Rattle.rsml_syntax.specs.text.Names.{Name}
+use Rattle.rsml_syntax.specs.limits.Checked.{IsChecked}
 use Rattle.rsml_meaning.specs.Words.{Path, is_prefix, at, child_path}
 use Rattle.rsml_meaning.specs.Instances.{State, Component, states, components}
 use Rattle.rsml_meaning.specs.Active.{chosen, child_place}
-use Rattle.state_nodes.specs.Numbers.{paths, component_at}
+use Rattle.state_tree.specs.nodes.Numbers.{paths, component_at}
 
 -- The number past the last state that is in a state: those that its path begins stand from it to there.
 pub record IsEnd (ps : List Path) (first end : ℕ) : Type 0 where
   pub within : end ≤ length ps
-  pub span : (p : Path) → slice_get ps first ≡ Some p → (number : ℕ) (q : Path) → slice_get ps number ≡ Some q → is_prefix p q ≡ (nat_le first number && nat_lt number end)
+  pub span : (p : Path) → slice_get ps first ≡ Some p → (number : ℕ) (q : Path) → slice_get ps number ≡ Some q
+      → is_prefix p q ≡ (nat_le first number && nat_lt number end)
 
 -- each state's end
 pub record AreEnds (ps : List Path) (ends : List ℕ) : Type 0 where
@@ -21,26 +22,29 @@ pub record AreEnds (ps : List Path) (ends : List ℕ) : Type 0 where
 
 -- the number is that of the plain child of this name of a state
 abbrev pub IsChildNamed : List Path → ℕ → Name → ℕ → Type 0
-IsChildNamed ps node name number = (p : Path) → slice_get ps node ≡ Some p → slice_get ps number ≡ Some (child_path p (at name 0))
+IsChildNamed ps node name number =
+    (p : Path) → slice_get ps node ≡ Some p → slice_get ps number ≡ Some (child_path p (at name 0))
 
 -- the state has a plain child of this name
 abbrev pub HasChildNamed : List Path → ℕ → Name → Type 0
-HasChildNamed ps node name = (p : Path) × (number : ℕ) × (slice_get ps node ≡ Some p) × (slice_get ps number ≡ Some (child_path p (at name 0)))
+HasChildNamed ps node name =
+    (p : Path) × (number : ℕ) × (slice_get ps node ≡ Some p) × (slice_get ps number ≡ Some (child_path p (at name 0)))
 
 -- A component: its number as a state, the place of its default child, and the numbers of its children.
 pub record Family : Type 0 where
   pub node : ℕ
-  pub first : ℕ
+  pub default : ℕ
   pub children : List ℕ
 
 -- the numbers are those of a component
 pub record IsFamily (s : Spec) (c : Component) (f : Family) : Type 0 where
   pub here : component_at (states s) f.node ≡ Some c
   pub path : slice_get (paths (states s)) f.node ≡ Some c.path
-  pub first : f.first ≡ child_place c c.first
+  pub default : f.default ≡ child_place c c.default
   pub many : length f.children ≡ length c.children
   pub few : length c.children ≤ 64
-  pub children : (place node : ℕ) → slice_get f.children place ≡ Some node → slice_get (paths (states s)) node ≡ Some (chosen (c, place))
+  pub children : (place node : ℕ) → slice_get f.children place ≡ Some node
+      → slice_get (paths (states s)) node ≡ Some (chosen (c, place))
 
 -- the family is that of the component of this number
 abbrev pub HasFamily : Spec → ℕ → Family → Type 0

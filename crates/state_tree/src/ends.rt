@@ -1,12 +1,12 @@
 ghost use Rattle.std.specs.Prelude.{◌≡◌, ◌<◌, IfOk, length};
-ghost use Rattle.rsml_syntax.specs.Checked.{IsChecked};
+ghost use Rattle.rsml_syntax.specs.limits.Checked.{IsChecked};
 ghost use Rattle.rsml_meaning.specs.Instances.{states};
-ghost use Rattle.state_nodes.specs.Numbers.{paths};
+ghost use Rattle.state_tree.specs.nodes.Numbers.{paths};
 ghost use Rattle.state_tree.specs.Tables.{AreEnds, IsEnd};
 
+use crate::nodes::Nodes;
 use crate::paths::{is_prefix, path_of};
 use rsml_syntax::{NoMemory, Spec};
-use state_nodes::Nodes;
 use std::alloc::Global;
 
 /// The number past the last state that is in a state.

@@ -1,14 +1,14 @@
 ghost use Rattle.std.specs.Prelude.{◌≡◌, [], ◌++◌, ◌<◌, IfOk, length};
 ghost use Rattle.std.specs.List.{cons_option};
-ghost use Rattle.rsml_syntax.specs.Checked.{IsChecked};
+ghost use Rattle.rsml_syntax.specs.limits.Checked.{IsChecked};
 ghost use Rattle.rsml_meaning.specs.Instances.{states};
-ghost use Rattle.state_nodes.specs.Numbers.{paths, component_at};
+ghost use Rattle.state_tree.specs.nodes.Numbers.{paths, component_at};
 ghost use Rattle.state_tree.specs.Tables.{AreEnds, IsFamilyOf, AreFamilies};
 
 use crate::family::{Family, child_place, children_named};
+use crate::nodes::Nodes;
 use rsml_names::{children_of, default_of};
 use rsml_syntax::{NoMemory, Spec};
-use state_nodes::Nodes;
 use std::alloc::Global;
 
 /// The family of a state, where that is a component.

@@ -1,14 +1,14 @@
 ghost use Rattle.std.specs.Prelude.{◌≡◌, ◌≤◌, ◌↔◌, IfOk, IsTrue, length, map, unwrap_or};
 ghost use Rattle.std.specs.List.{AllZip};
-ghost use Rattle.rsml_syntax.specs.Names.{place_of};
+ghost use Rattle.rsml_syntax.specs.text.Names.{place_of};
 ghost use Rattle.rsml_syntax.specs.declared.world.Step as spec;
 ghost use Rattle.rsml_meaning.specs.Words.{Each, at, child_path};
-ghost use Rattle.state_nodes.specs.Numbers.{paths};
+ghost use Rattle.state_tree.specs.nodes.Numbers.{paths};
 ghost use Rattle.state_tree.specs.Tables.{IsEnd, HasChildNamed, IsChildNamed};
 
+use crate::nodes::{Nodes, StepRef};
 use crate::paths::{is_plain, is_prefix, path_of};
 use rsml_syntax::{NoMemory, StateDecl, Text};
-use state_nodes::{Nodes, Step};
 use std::alloc::Global;
 use std::marker::Model;
 
@@ -26,7 +26,7 @@ impl Model for Family {
 
     ghost Value = { spec.Family };
 
-    ghost view = { λ f. record { node = f.node; first = f.default; children = f.children.items } };
+    ghost view = { λ f. record { node = f.node; default = f.default; children = f.children.items } };
 }
 
 /// The place of a child of this name, or 0 where there is none.
@@ -43,14 +43,14 @@ pub fn child_place(children: &[StateDecl], name: &Text) -> u8
 }
 
 /// Whether a path is one step longer than another that begins it.
-fn is_one_longer(path: &[Step<'_>], parent: &[Step<'_>]) -> bool
+fn is_one_longer(path: &[StepRef<'_>], parent: &[StepRef<'_>]) -> bool
     ensures { IsTrue result ↔ ((step : spec.Step) × (path.now ≡ child_path parent.now step)) }
 {
     parent.len() < path.len() && path.len() - 1 == parent.len() && is_prefix(parent, path)
 }
 
 /// Whether a path goes one step further than another, to a plain state of this name.
-fn is_child(path: &[Step<'_>], parent: &[Step<'_>], name: &Text) -> bool
+fn is_child(path: &[StepRef<'_>], parent: &[StepRef<'_>], name: &Text) -> bool
     ensures { IsTrue result ↔ (path.now ≡ child_path parent.now (at name.now 0)) }
 {
     match path.last() {

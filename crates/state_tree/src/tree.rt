@@ -6,7 +6,7 @@ ghost use Rattle.rsml_meaning.specs.Instances.{Component, states, components};
 ghost use Rattle.rsml_meaning.specs.Active as spec;
 ghost use Rattle.rsml_meaning.specs.Worlds.{is_choice};
 ghost use Rattle.std.specs.Cmp.Lexicographic.{pointwise};
-ghost use Rattle.state_nodes.specs.Numbers.{IsPlace, paths, path_around, component_at};
+ghost use Rattle.state_tree.specs.nodes.Numbers.{IsPlace, paths, path_around, component_at};
 ghost use Rattle.state_tree.specs.Tables.{HasFamily};
 ghost use Rattle.state_tree.specs.Numbers.{path_of, component_path};
 ghost use Rattle.state_tree.specs.Numbers.{HasChild, AreChoices, IsActivity, leads_to};
@@ -14,10 +14,10 @@ ghost use Rattle.state_tree.specs.Numbers.{HasChild, AreChoices, IsActivity, lea
 use crate::ends::ends;
 use crate::families::families;
 use crate::family::{Family, child_place};
+use crate::nodes::Nodes;
 use crate::paths;
 use rsml_names::children_of;
 use rsml_syntax::{Checked, List as Items, NoMemory, Spec, Text};
-use state_nodes::Nodes;
 use std::alloc::Global;
 use std::marker::Model;
 
@@ -52,7 +52,7 @@ impl<'a> Tree<'a> {
         ensures { IfOk result (λ t. t ≡ checked.now) }
     {
         let spec = checked.spec();
-        let nodes = Nodes::build(alloc, checked)?;
+        let nodes = Nodes::new(alloc, checked)?;
         let ends = ends(alloc, spec, &nodes)?;
         let families = families(alloc, spec, &nodes, &ends)?;
         Ok(Tree {
@@ -160,6 +160,7 @@ impl<'a> Tree<'a> {
             → slice_get (paths (states self.now)) node ≡ Some (child_path p x)
             → result ≡ leads_to self.now choices.now p x }
     {
+        // To look at a field makes the invariant of the tree known to the proof.
         let _ = &self.spec;
         match self.component_of(parent) {
             Some(component) => self.child(component, choices[component as usize]) == node,

@@ -9,7 +9,7 @@ use super::Arena;
 use crate::computed::Kept;
 use crate::node::{FALSE, TRUE};
 use crate::reference::Ref;
-use rsml_syntax::NoMemory;
+use rsml_base::NoMemory;
 
 impl Arena {
     /// The function that is true where the level is.
@@ -27,22 +27,25 @@ impl Arena {
     pub fn not(&mut self, f: Ref) -> Result<Ref, NoMemory>
         requires { IsRef self.old f }
         ensures keeps { Keeps self.old self.new }
-        ensures answer { IfOk result (Represents self.new (λ values. not (meaning self.old f values))) }
+        ensures answer { IfOk result (Represents self.new (λ values.
+            not (meaning self.old f values))) }
     {
         let f = self.place(f);
         let place = self.choose(f, FALSE, TRUE)?;
         Ok(Ref::at(place))
     }
 
-    /// The conjunction. Also where it is refused, each node that it adds is a conjunction of a node reached from `f` and one
-    /// reached from `g`, so it adds at most `size(f) * size(g)` nodes.
+    /// The conjunction. Also where it is refused, each node that it adds is a conjunction of a node
+    /// reached from `f` and one reached from `g`, so it adds at most `size(f) * size(g)` nodes.
     pub fn and(&mut self, f: Ref, g: Ref) -> Result<Ref, NoMemory>
         requires f_ref { IsRef self.old f }
         requires g_ref { IsRef self.old g }
         ensures keeps { Keeps self.old self.new }
-        ensures answer { IfOk result (Represents self.new (λ values. meaning self.old f values && meaning self.old g values)) }
+        ensures answer { IfOk result (Represents self.new (λ values.
+            meaning self.old f values && meaning self.old g values)) }
         ensures added { AddsConjunctions self.old self.new f g }
-        ensures few { (f_size g_size : ℕ) → IsSize self.old f f_size → IsSize self.old g g_size → length self.new.nodes ≤ length self.old.nodes + f_size * g_size }
+        ensures few { (f_size g_size : ℕ) → IsSize self.old f f_size → IsSize self.old g g_size
+            → length self.new.nodes ≤ length self.old.nodes + f_size * g_size }
     {
         let f = self.place(f);
         let g = self.place(g);
@@ -56,7 +59,8 @@ impl Arena {
         requires f_ref { IsRef self.old f }
         requires g_ref { IsRef self.old g }
         ensures keeps { Keeps self.old self.new }
-        ensures answer { IfOk result (Represents self.new (λ values. meaning self.old f values || meaning self.old g values)) }
+        ensures answer { IfOk result (Represents self.new (λ values.
+            meaning self.old f values || meaning self.old g values)) }
     {
         let f = self.place(f);
         let g = self.place(g);
@@ -70,7 +74,9 @@ impl Arena {
         requires g_ref { IsRef self.old g }
         requires h_ref { IsRef self.old h }
         ensures keeps { Keeps self.old self.new }
-        ensures answer { IfOk result (Represents self.new (λ values. if meaning self.old f values then meaning self.old g values else meaning self.old h values)) }
+        ensures answer { IfOk result (Represents self.new (λ values.
+            if meaning self.old f values then meaning self.old g values
+            else meaning self.old h values)) }
     {
         let f = self.place(f);
         let g = self.place(g);
@@ -79,7 +85,7 @@ impl Arena {
         Ok(Ref::at(place))
     }
 
-    // It calls itself once a level.
+    /// It calls itself once a level.
     fn choose(&mut self, f: u32, g: u32, h: u32) -> Result<u32, NoMemory>
         requires f_ref { IsRef self.old f }
         requires g_ref { IsRef self.old g }
@@ -105,7 +111,7 @@ impl Arena {
         Ok(answer)
     }
 
-    // The answer that was kept of this choice, if any.
+    /// The answer that was kept of this choice, if any.
     #[inline(always)]
     fn known(&self, f: u32, g: u32, h: u32) -> Option<u32>
         requires f_ref { IsRef self.now f }
@@ -117,7 +123,7 @@ impl Arena {
         self.choices.find(f, g, h)
     }
 
-    // Keeps the answer of a choice.
+    /// Keeps the answer of a choice.
     #[inline(always)]
     fn note(&mut self, f: u32, g: u32, h: u32, answer: u32)
         requires f_ref { IsRef self.old f }
@@ -131,7 +137,7 @@ impl Arena {
         self.choices.keep(Kept { f, g, h, answer });
     }
 
-    // Gives the table of choices as many slots as there are nodes, where there is memory for it.
+    /// Gives the table of choices as many slots as there are nodes, where there is memory for it.
     #[inline(always)]
     fn make_room_for_choices(&mut self)
         ensures { self.new ≡ self.old }
@@ -140,10 +146,11 @@ impl Arena {
     }
 }
 
-// The answer of a choice that needs no recursion.
+/// The answer of a choice that needs no recursion.
 #[inline(always)]
 fn simple(f: u32, g: u32, h: u32) -> Option<u32>
-    ensures right { IfSome result (λ r. (d : Diagram) → IsRef d f → IsRef d g → IsRef d h → IsChoice d f g h r) }
+    ensures right { IfSome result (λ r. (d : Diagram) → IsRef d f → IsRef d g → IsRef d h
+        → IsChoice d f g h r) }
     ensures open { IfNone result (2 ≤ f) }
 {
     if f == TRUE || g == h {
@@ -157,10 +164,12 @@ fn simple(f: u32, g: u32, h: u32) -> Option<u32>
     }
 }
 
-// The same choice, with the operands of a conjunction or a disjunction in the order of their places.
+/// The same choice, with the operands of a conjunction or a disjunction in the order of their
+/// places.
 #[inline(always)]
 fn ordered(f: u32, g: u32, h: u32) -> (u32, u32, u32)
-    ensures { (d : Diagram) → IsRef d f → IsRef d g → IsRef d h → IsSameChoice d f g h result.0 result.1 result.2 }
+    ensures { (d : Diagram) → IsRef d f → IsRef d g → IsRef d h
+        → IsSameChoice d f g h result.0 result.1 result.2 }
 {
     if h == FALSE && g < f {
         (g, f, h)

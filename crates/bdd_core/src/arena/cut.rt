@@ -7,21 +7,22 @@ ghost use Rattle.bdd_core.specs.Steps.{IsCut};
 use super::Arena;
 use crate::computed::Kept;
 use crate::reference::Ref;
-use rsml_syntax::NoMemory;
+use rsml_base::NoMemory;
 
 impl Arena {
     /// The function that `f` is where a level has a value, whatever the value of that level.
     pub fn restrict(&mut self, f: Ref, level: u32, value: bool) -> Result<Ref, NoMemory>
         requires { IsRef self.old f }
         ensures keeps { Keeps self.old self.new }
-        ensures answer { IfOk result (Represents self.new (λ values. meaning self.old f (with_value values level value))) }
+        ensures answer { IfOk result (Represents self.new (λ values.
+            meaning self.old f (with_value values level value))) }
     {
         let f = self.place(f);
         let place = self.cut(f, level, value)?;
         Ok(Ref::at(place))
     }
 
-    // It calls itself once a level.
+    /// It calls itself once a level.
     fn cut(&mut self, f: u32, level: u32, value: bool) -> Result<u32, NoMemory>
         requires { IsRef self.old f }
         ensures keeps { Keeps self.old self.new }
@@ -45,7 +46,7 @@ impl Arena {
         Ok(answer)
     }
 
-    // The answer that was kept of this cut, if any.
+    /// The answer that was kept of this cut, if any.
     #[inline(always)]
     fn known_cut(&self, f: u32, level: u32, value: bool) -> Option<u32>
         ensures { IfSome result (λ r. IsCut self.now f level value r) }
@@ -53,7 +54,7 @@ impl Arena {
         self.cuts.find(f, level, value as u32)
     }
 
-    // Keeps the answer of a cut.
+    /// Keeps the answer of a cut.
     #[inline(always)]
     fn note_cut(&mut self, f: u32, level: u32, value: bool, answer: u32)
         requires f_ref { IsRef self.old f }
@@ -69,7 +70,8 @@ impl Arena {
         });
     }
 
-    // Gives the table of cuts a quarter as many slots as there are nodes, where there is memory for it.
+    /// Gives the table of cuts a quarter as many slots as there are nodes, where there is memory
+    /// for it.
     #[inline(always)]
     fn make_room_for_cuts(&mut self)
         ensures { self.new ≡ self.old }

@@ -7,13 +7,13 @@ ghost use Rattle.bdd_core.specs.Steps.{IsChildren, IsNode};
 use super::Arena;
 use crate::node::Node;
 use crate::reference::Ref;
-use rsml_syntax::NoMemory;
+use rsml_base::NoMemory;
 
-// The greatest place that a node can have: `IndexSet` itself refuses a node before that.
+/// The greatest place that a node can have: `IndexSet` itself refuses a node before that.
 const MAX_PLACE: usize = u32::MAX as usize;
 
 impl Arena {
-    // The place of a handle.
+    /// The place of a handle.
     #[inline(always)]
     pub(super) fn place(&self, f: Ref) -> u32
         requires { IsRef self.now f }
@@ -24,7 +24,7 @@ impl Arena {
         f.place as u32
     }
 
-    // The level of a place.
+    /// The level of a place.
     #[inline(always)]
     pub(super) fn level(&self, f: u32) -> u32
         requires { IsRef self.now f }
@@ -36,7 +36,8 @@ impl Arena {
         self.nodes[f as usize].level
     }
 
-    // The two places that stand for a place where a level has the values false and true. The level is no greater than the place's.
+    /// The two places that stand for a place where a level has the values false and true. The level
+    /// is no greater than the place's.
     #[inline(always)]
     pub(super) fn children(&self, f: u32, level: u32) -> (u32, u32)
         requires place { IsRef self.now f }
@@ -52,7 +53,7 @@ impl Arena {
         }
     }
 
-    // The place of a node, which is made where there is none, and where its children differ.
+    /// The place of a node, which is made where there is none, and where its children differ.
     pub(super) fn make(&mut self, level: u32, low: u32, high: u32) -> Result<u32, NoMemory>
         requires fits { level < self.old.levels }
         requires low_ref { IsRef self.old low }
@@ -60,7 +61,8 @@ impl Arena {
         requires low_level { level < level_of self.old low }
         requires high_level { level < level_of self.old high }
         ensures keeps { Keeps self.old self.new }
-        ensures added { (k : ℕ) → length self.old.nodes ≤ k → IsRef self.new k → IsNode self.new level low high k }
+        ensures added { (k : ℕ) → length self.old.nodes ≤ k → IsRef self.new k
+            → IsNode self.new level low high k }
         ensures node { IfOk result (λ r. IsNode self.new level low high r) }
     {
         if low == high {

@@ -46,8 +46,8 @@ impl Arena {
         })
     }
 
-    /// How many different nodes are reached from `f`, itself and the constants counted. Its time is in proportion to the place
-    /// of `f` in the arena.
+    /// How many different nodes are reached from `f`, itself and the constants counted. Its time is
+    /// in proportion to the place of `f` in the arena.
     pub fn size(&self, f: Ref, marks: &mut Marks) -> usize
         requires in_arena { IsRef self.now f }
         requires in_marks { f < marks.old }
@@ -68,16 +68,20 @@ impl Arena {
         count
     }
 
-    // Takes the mark of a place, and marks its children.
+    /// Takes the mark of a place, and marks its children.
     fn unmark(&self, at: usize, seen: &mut Vec<bool>)
         requires place { at < length seen.old.items }
         requires in_arena { IsRef self.now at }
         requires marked { slice_get seen.old.items at ≡ Some true }
         ensures len { length seen.new.items ≡ length seen.old.items }
-        ensures stay { (k : ℕ) → k ≢ at → slice_index_or seen.old.items k false ≡ true → slice_index_or seen.new.items k false ≡ true }
-        ensures low { 2 ≤ at → (node_at self.now at).low < at → slice_index_or seen.new.items (node_at self.now at).low false ≡ true }
-        ensures high { 2 ≤ at → (node_at self.now at).high < at → slice_index_or seen.new.items (node_at self.now at).high false ≡ true }
-        ensures tells { (k : ℕ) → slice_index_or seen.new.items k false ≡ true → ((k ≢ at) × (slice_index_or seen.old.items k false ≡ true)) ⊎ (IsChild self.now at k) }
+        ensures stay { (k : ℕ) → k ≢ at → slice_index_or seen.old.items k false ≡ true
+            → slice_index_or seen.new.items k false ≡ true }
+        ensures low { 2 ≤ at → (node_at self.now at).low < at
+            → slice_index_or seen.new.items (node_at self.now at).low false ≡ true }
+        ensures high { 2 ≤ at → (node_at self.now at).high < at
+            → slice_index_or seen.new.items (node_at self.now at).high false ≡ true }
+        ensures tells { (k : ℕ) → slice_index_or seen.new.items k false ≡ true
+            → ((k ≢ at) × (slice_index_or seen.old.items k false ≡ true)) ⊎ (IsChild self.now at k) }
     {
         let node = self.nodes[at];
         seen[at] = false;

@@ -9,20 +9,20 @@ use Rattle.rsml_syntax.specs.declared.syntax.Signed.{Signed}
 use Rattle.rsml_syntax.specs.declared.syntax.Initial.{Initial}
 use Rattle.rsml_syntax.specs.declared.syntax.Initial.TheVariants as initials
 use Rattle.rsml_syntax.specs.declared.want.Want.TheVariants as want
-use Rattle.rsml_syntax.specs.Names.{Name, same}
-use Rattle.rsml_syntax.specs.Globals.{Known, name_of, values_of, meaning, constant_of, constant, number_of, number, indices}
-use Rattle.rsml_syntax.specs.Thresholds.{type_ends}
-use Rattle.rsml_syntax.specs.Previous.{names_previous}
-use Rattle.rsml_syntax.specs.Uses.{fits, used}
-use Rattle.rsml_syntax.specs.Declarations.{is_between, is_value_of, is_initial, initial_used, scope_at}
-use Rattle.rsml_syntax.specs.Rules.{whole, refused}
+use Rattle.rsml_syntax.specs.text.Names.{Name, same}
+use Rattle.rsml_syntax.specs.rules.Globals.{Known, name_of, values_of, meaning, constant_of, constant, number_of, number, indices}
+use Rattle.rsml_syntax.specs.limits.Thresholds.{type_ends}
+use Rattle.rsml_syntax.specs.limits.Previous.{names_previous}
+use Rattle.rsml_syntax.specs.rules.Uses.{fits, used}
+use Rattle.rsml_syntax.specs.rules.Declarations.{is_between, is_value_of, is_initial, initial_used, scope_at}
+use Rattle.rsml_syntax.specs.rules.Rules.{name_tables, broken_rule}
 use Rattle.rsml_meaning.specs.Words.{Instance, at, Each, IsOne}
 use Rattle.rsml_meaning.specs.Instances.{globals_of}
 use Rattle.rsml_meaning.specs.Cells.{InputCell, new_type, no_type, type_named, type_by, input_type, is_of, initial_number, new_cell, cells_of, own_cells, as_previous, previous_cells, cells}
 use Rattle.rsml_meaning.proofs.Same.{name_same}
 use Rattle.one_run.proofs.Lists.{both, each_append, each_flat_map, each_more, each_filter, each_one}
 use Rattle.one_run.proofs.Globals.{Means, meaning_is}
-use Rattle.one_run.proofs.rules.Clean.{IsPlaced, each_placed, names_in, no_front, holds}
+use Rattle.rsml_syntax.proofs.Clean.{IsPlaced, each_placed, names_in, no_front, holds}
 use Rattle.one_run.proofs.rules.Declared.{own_clean, contents_clean, own_meaning}
 use Rattle.one_run.proofs.rules.Mentions.{used_is}
 
@@ -55,7 +55,7 @@ by_name d = record { decl = d; value = None }
 same_decl : (d e : Decl) → Some (by_name d) ≡ Some (by_name e) → d ≡ e
 same_decl d e h = ap (λ (o : Option Known). option_map_or (λ (k : Known). k.decl) o d) h
 
-module _ (s : Spec) (h : refused s ≡ None) where
+module _ (s : Spec) (h : broken_rule s ≡ None) where
   -- a value of an enumeration of this name is of the type
   value_fits : (name : Name) (values : List Name) (x : Name) → IsOne (decl.Enumeration name values) s.decls → option_map_or (is_value_of name) (meaning (globals_of s) x) false ≡ true
       → is_of (new_type (pos 0, pos (length values) -ℤ pos 1) values) (number (globals_of s) x) ≡ true
@@ -116,9 +116,9 @@ module _ (s : Spec) (h : refused s ≡ None) where
           let d = decl.Input name size kind initial in
           let p = each_one (IsPlaced s) s.decls d (each_placed s h) m in
           let place = length (names_in p.before) in
-          let scope = scope_at (whole s) place size in
-          let u = used_is s scope want.Type kind (no_front (used (whole s) scope want.Type kind) (initial_used (whole s) scope initial) (contents_clean (whole s) place d p.clean)) in
-          let right = holds 7 name (option_map_or (is_initial (globals_of s) initial) (meaning (globals_of s) kind) true) (own_clean (whole s) place d p.clean) in
+          let scope = scope_at (name_tables s) place size in
+          let u = used_is s scope want.Type kind (no_front (used (name_tables s) scope want.Type kind) (initial_used (name_tables s) scope initial) (contents_clean (name_tables s) place d p.clean)) in
+          let right = holds 7 name (option_map_or (is_initial (globals_of s) initial) (meaning (globals_of s) kind) true) (own_clean (name_tables s) place d p.clean) in
           let fit = initial_fits kind initial u.known u.fit u.means (subst (λ o. option_map_or (is_initial (globals_of s) initial) o true ≡ true) u.is right) in
           each_instance (new_cell (type_named (globals_of s) kind) (initial_number (globals_of s) initial)) name (indices (globals_of s) size)
           (λ i. record {

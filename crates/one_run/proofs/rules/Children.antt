@@ -5,20 +5,20 @@ use Rattle.rsml_syntax.specs.declared.syntax.Spec.{Spec}
 use Rattle.rsml_syntax.specs.declared.syntax.Amount.{Amount}
 use Rattle.rsml_syntax.specs.declared.syntax.Body.{Row_of-StateDecl, end_of-StateDecl, more_of-StateDecl}
 use Rattle.rsml_syntax.specs.declared.world.Step.{Step}
-use Rattle.rsml_syntax.specs.Names.{Name, is_in}
-use Rattle.rsml_syntax.specs.Globals.{indices}
-use Rattle.rsml_syntax.specs.Breaches.{breach}
-use Rattle.rsml_syntax.specs.Parts.{Part, Opens, Closes, nearer, placed, inside, row_parts, children_of, top_of}
-use Rattle.rsml_syntax.specs.Parts as part
-use Rattle.rsml_syntax.specs.Uses.{sized}
-use Rattle.rsml_syntax.specs.States.{state_scope, is_composed, is_misplaced}
-use Rattle.rsml_syntax.specs.Rules.{whole}
+use Rattle.rsml_syntax.specs.text.Names.{Name, is_in}
+use Rattle.rsml_syntax.specs.rules.Globals.{indices}
+use Rattle.rsml_syntax.specs.rules.Breaches.{breach}
+use Rattle.rsml_syntax.specs.grammar.Parts.{Opens, Closes, nearer, placed, inside, row_parts}
+use Rattle.rsml_syntax.specs.grammar.Parts as part
+use Rattle.rsml_syntax.specs.rules.Uses.{sized}
+use Rattle.rsml_syntax.specs.rules.States.{state_scope, is_composed, is_misplaced}
+use Rattle.rsml_syntax.specs.rules.Rules.{name_tables}
 use Rattle.rsml_meaning.specs.Words.{Each, IsOne, Path, at, child_path}
-use Rattle.rsml_meaning.specs.Instances.{State, Component, globals_of, row_names, component_of, new_state, row_inside, states, components}
+use Rattle.rsml_meaning.specs.Instances.{State, globals_of, row_names, new_state, row_inside}
 use Rattle.rsml_meaning.specs.Instances as made
 use Rattle.rsml_meaning.specs.Transitions.{innermost}
 use Rattle.one_run.proofs.Lists.{one_map, one_of_map, one_front, one_back}
-use Rattle.one_run.proofs.rules.Clean.{Clean, back_each, no_front, no_back, holds, unbroken}
+use Rattle.rsml_syntax.proofs.Clean.{Clean, back_each, no_front, no_back, holds, unbroken}
 use Rattle.one_run.proofs.rules.Names.{in_cases}
 use Rattle.one_run.proofs.rules.Sizes.{IsSized, size_is, of_up_to, indices_are}
 
@@ -48,13 +48,13 @@ inner_index s around (Some amount) path name i z m k =
 -- what is known of a state where it opens
 pub opened_size : (s : Spec) (x : part.State) → Clean s (Opens x) → (is_misplaced x ≡ false) × IsSized (globals_of s) x.size
 opened_size s x h =
-    let size = sized (whole s) (state_scope (whole s) x) x.name x.size in
+    let size = sized (name_tables s) (state_scope (name_tables s) x) x.name x.size in
     let after = no_back (breach 10 x.name (not (is_composed x.body))) (breach 13 x.name (is_misplaced x) ++ size) (no_back (breach 1 x.name x.repeated) (breach 10 x.name (not (is_composed x.body)) ++ (breach 13 x.name (is_misplaced x) ++ size)) h) in
-    (unbroken 13 x.name (is_misplaced x) (no_front (breach 13 x.name (is_misplaced x)) size after), size_is s (state_scope (whole s) x) x.name x.size (no_back (breach 13 x.name (is_misplaced x)) size after))
+    (unbroken 13 x.name (is_misplaced x) (no_front (breach 13 x.name (is_misplaced x)) size after), size_is s (state_scope (name_tables s) x) x.name x.size (no_back (breach 13 x.name (is_misplaced x)) size after))
 
 pub opened_body : (s : Spec) (x : part.State) → Clean s (Opens x) → is_composed x.body ≡ true
 opened_body s x h =
-    let rest = breach 13 x.name (is_misplaced x) ++ sized (whole s) (state_scope (whole s) x) x.name x.size in
+    let rest = breach 13 x.name (is_misplaced x) ++ sized (name_tables s) (state_scope (name_tables s) x) x.name x.size in
     holds 10 x.name (is_composed x.body) (no_front (breach 10 x.name (not (is_composed x.body))) rest (no_back (breach 1 x.name x.repeated) (breach 10 x.name (not (is_composed x.body)) ++ rest) h))
 
 -- a child of a `one` state has no size, so that its path is that of a state

@@ -1,4 +1,4 @@
--- The sources of a component's transitions are states, and their triggers are events.
+-- The sources of a component's transitions are states, their triggers and the events that they raise are events.
 use Rattle.std.proofs.Common.{◌≡◌, ℕ, Bool, true, false, cond, not, ◌||◌, List, [], ◌∷◌, ◌++◌, map, flat_map, find, Option, Some, None, inl, inr, ⊎_elim, refl, sym, ap, ◌∙◌, true≢false, IsTrue}
 use Rattle.std.specs.List.{list_all, list_any}
 use Rattle.std.specs.Cmp.{first_so, second_so}
@@ -9,20 +9,21 @@ use Rattle.rsml_syntax.specs.declared.syntax.Transition.{Transition}
 use Rattle.rsml_syntax.specs.declared.syntax.StateDecl.{StateDecl}
 use Rattle.rsml_syntax.specs.declared.syntax.Body.{Body, Row_of-StateDecl, end_of-StateDecl, more_of-StateDecl, items-the_row-StateDecl}
 use Rattle.rsml_syntax.specs.declared.want.Want.TheVariants as want
-use Rattle.rsml_syntax.specs.Names.{Name, same, is_in}
-use Rattle.rsml_syntax.specs.Breaches.{breach}
-use Rattle.rsml_syntax.specs.Parts.{children_of}
-use Rattle.rsml_syntax.specs.Owners.{owner}
-use Rattle.rsml_syntax.specs.Scopes.{Scope}
-use Rattle.rsml_syntax.specs.Uses.{mentioned, guard_used}
-use Rattle.rsml_syntax.specs.States.{child_names, bus_names, are_members, has_repeat, buses, target, transition, raised_again}
-use Rattle.rsml_syntax.specs.Rules.{whole, refused}
+use Rattle.rsml_syntax.specs.text.Names.{Name, same, is_in}
+use Rattle.rsml_syntax.specs.rules.Breaches.{breach}
+use Rattle.rsml_syntax.specs.grammar.Parts.{children_of}
+use Rattle.rsml_syntax.specs.rules.Owners.{owner}
+use Rattle.rsml_syntax.specs.rules.Scopes.{Scope}
+use Rattle.rsml_syntax.specs.rules.Uses.{mentioned, guard_used}
+use Rattle.rsml_syntax.specs.rules.States.{child_names, bus_names, are_members, has_repeat, buses, target, transition, raised_again}
+use Rattle.rsml_syntax.specs.rules.Rules.{name_tables, broken_rule}
 use Rattle.rsml_meaning.specs.Words.{Each, IsOne, at, child_path}
 use Rattle.rsml_meaning.specs.Instances.{Component, globals_of, row_names}
+use Rattle.rsml_meaning.specs.Truth.{within, instance}
 use Rattle.rsml_meaning.specs.Transitions.{TransitionInstance, innermost, sources, new_transition, transitions_of}
 use Rattle.one_run.specs.Scoped.{IsState, IsEvent}
 use Rattle.one_run.proofs.Lists.{or_cases, each_map_ones, each_numbered_flat, each_one}
-use Rattle.one_run.proofs.rules.Clean.{no_front, no_back, holds}
+use Rattle.rsml_syntax.proofs.Clean.{no_front, no_back, none_each, holds}
 use Rattle.one_run.proofs.rules.Mentions.{mentioned_is}
 use Rattle.one_run.proofs.rules.Used.{Inside, event_is}
 use Rattle.one_run.proofs.rules.Names.{is_in_any}
@@ -85,48 +86,67 @@ sources_are c name m h = by_bus (find (λ (b : Bus). same name b.name) c.buses) 
 pub record IsScopedTransition (s : Spec) (t : TransitionInstance) : Type 0 where
   pub source : IsState s t.source
   pub trigger : IsEvent s t.event
+  pub raises : Each (IsEvent s) t.raises
 
 -- What is known of a component.
 pub record IsScopedComponent (s : Spec) (c : Component) : Type 0 where
-  pub default : IsTrue (is_in c.first c.children)
+  pub default : IsTrue (is_in c.default c.children)
   pub transitions : Each (IsScopedTransition s) (transitions_of (globals_of s) c)
 
 -- what a transition of a body has, where it has no breach
-source_right : (s : Spec) (place : Scope) (body : Body) (t : Transition) → transition (whole s) place body t ≡ [] → (is_in t.source (child_names body) || is_in t.source (bus_names body)) ≡ true
+source_right : (s : Spec) (place : Scope) (body : Body) (t : Transition) → transition (name_tables s) place body t ≡ [] → (is_in t.source (child_names body) || is_in t.source (bus_names body)) ≡ true
 source_right s place body t h =
     holds 12 t.source (is_in t.source (child_names body) || is_in t.source (bus_names body))
     (no_front (breach 12 t.source (not (is_in t.source (child_names body) || is_in t.source (bus_names body))))
-    (owner (whole s).globals t.source (t.guard ∷ []) []
+    (owner (name_tables s).globals t.source (t.guard ∷ []) []
     ++ (target (children_of body) t.target
-    ++ (mentioned (whole s) place want.Event t.trigger
-    ++ (guard_used (whole s) place t.guard
-    ++ (flat_map (mentioned (whole s) place want.Event) t.raises ++ raised_again [] t.raises))))) h)
+    ++ (mentioned (name_tables s) place want.Event t.trigger
+    ++ (guard_used (name_tables s) place t.guard
+    ++ (flat_map (mentioned (name_tables s) place want.Event) t.raises ++ raised_again [] t.raises))))) h)
 
-trigger_right : (s : Spec) (place : Scope) (body : Body) (t : Transition) → transition (whole s) place body t ≡ [] → mentioned (whole s) place want.Event t.trigger ≡ []
+trigger_right : (s : Spec) (place : Scope) (body : Body) (t : Transition) → transition (name_tables s) place body t ≡ [] → mentioned (name_tables s) place want.Event t.trigger ≡ []
 trigger_right s place body t h =
-    let rest = guard_used (whole s) place t.guard ++ (flat_map (mentioned (whole s) place want.Event) t.raises ++ raised_again [] t.raises) in
-    let from = mentioned (whole s) place want.Event t.trigger ++ rest in
-    no_front (mentioned (whole s) place want.Event t.trigger) rest
+    let rest = guard_used (name_tables s) place t.guard ++ (flat_map (mentioned (name_tables s) place want.Event) t.raises ++ raised_again [] t.raises) in
+    let from = mentioned (name_tables s) place want.Event t.trigger ++ rest in
+    no_front (mentioned (name_tables s) place want.Event t.trigger) rest
     (no_back (target (children_of body) t.target) from
-    (no_back (owner (whole s).globals t.source (t.guard ∷ []) []) (target (children_of body) t.target ++ from)
-    (no_back (breach 12 t.source (not (is_in t.source (child_names body) || is_in t.source (bus_names body)))) (owner (whole s).globals t.source (t.guard ∷ []) [] ++ (target (children_of body) t.target ++ from)) h)))
+    (no_back (owner (name_tables s).globals t.source (t.guard ∷ []) []) (target (children_of body) t.target ++ from)
+    (no_back (breach 12 t.source (not (is_in t.source (child_names body) || is_in t.source (bus_names body)))) (owner (name_tables s).globals t.source (t.guard ∷ []) [] ++ (target (children_of body) t.target ++ from)) h)))
+
+raises_right : (s : Spec) (place : Scope) (body : Body) (t : Transition) → transition (name_tables s) place body t ≡ [] → flat_map (mentioned (name_tables s) place want.Event) t.raises ≡ []
+raises_right s place body t h =
+    let raised = flat_map (mentioned (name_tables s) place want.Event) t.raises in
+    let rest = guard_used (name_tables s) place t.guard ++ (raised ++ raised_again [] t.raises) in
+    let from = mentioned (name_tables s) place want.Event t.trigger ++ rest in
+    no_front raised (raised_again [] t.raises)
+    (no_back (guard_used (name_tables s) place t.guard) (raised ++ raised_again [] t.raises)
+    (no_back (mentioned (name_tables s) place want.Event t.trigger) rest
+    (no_back (target (children_of body) t.target) from
+    (no_back (owner (name_tables s).globals t.source (t.guard ∷ []) []) (target (children_of body) t.target ++ from)
+    (no_back (breach 12 t.source (not (is_in t.source (child_names body) || is_in t.source (bus_names body)))) (owner (name_tables s).globals t.source (t.guard ∷ []) [] ++ (target (children_of body) t.target ++ from)) h)))))
 
 pub names_of_row : (n : _) (row : Row_of-StateDecl n) → row_names row ≡ map (λ (c : StateDecl). c.name) (items-the_row-StateDecl n row)
 names_of_row n end_of-StateDecl = refl
 names_of_row n (more_of-StateDecl a z b others) = ap (λ r. a ∷ r) (names_of_row _ others)
 
-module _ (s : Spec) (h : refused s ≡ None) (place : Scope) (around : Option Amount) (c : Component) (o : Inside s place around (innermost c.path))
+module _ (s : Spec) (h : broken_rule s ≡ None) (place : Scope) (around : Option Amount) (c : Component) (o : Inside s place around (innermost c.path))
     (body : Body) (names : c.children ≡ child_names body) (bus : map (λ (b : Bus). b.name) c.buses ≡ bus_names body)
     (children : (x : Name) → is_in x c.children ≡ true → IsState s (child_path c.path (at x 0))) (members : Each (AreMembers c.children) c.buses) where
-  transition_scoped : (n : ℕ) (t : Transition) → transition (whole s) place body t ≡ [] → Each (IsScopedTransition s) (map (new_transition (globals_of s) c (n, t)) (sources c t.source))
+  raises_events : (t : Transition) → transition (name_tables s) place body t ≡ [] → Each (IsEvent s) (map (instance (globals_of s) (within (innermost c.path))) t.raises)
+  raises_events t k =
+      let right = none_each (mentioned (name_tables s) place want.Event) t.raises (raises_right s place body t k) in
+      each_map_ones (IsEvent s) (instance (globals_of s) (within (innermost c.path))) t.raises
+      (λ m l. event_is s h place around (innermost c.path) o m (mentioned_is s place want.Event m (each_one (λ m. mentioned (name_tables s) place want.Event m ≡ []) t.raises m right l)))
+
+  transition_scoped : (n : ℕ) (t : Transition) → transition (name_tables s) place body t ≡ [] → Each (IsScopedTransition s) (map (new_transition (globals_of s) c (n, t)) (sources c t.source))
   transition_scoped n t k =
       let source : (is_in t.source c.children || is_in t.source (map (λ (b : Bus). b.name) c.buses)) ≡ true =
       ap (λ z. is_in t.source z || is_in t.source (map (λ (b : Bus). b.name) c.buses)) names ∙ ap (λ z. is_in t.source (child_names body) || is_in t.source z) bus ∙ source_right s place body t k in
       let are = sources_are c t.source members source in
       let event = event_is s h place around (innermost c.path) o t.trigger (mentioned_is s place want.Event t.trigger (trigger_right s place body t k)) in
       each_map_ones (IsScopedTransition s) (new_transition (globals_of s) c (n, t)) (sources c t.source)
-      (λ x m. record { source = children x (each_one (λ x. is_in x c.children ≡ true) (sources c t.source) x are m); trigger = event })
+      (λ x m. record { source = children x (each_one (λ x. is_in x c.children ≡ true) (sources c t.source) x are m); trigger = event; raises = raises_events t k })
 
-  pub transitions_scoped : Each (λ t. transition (whole s) place body t ≡ []) c.transitions → Each (IsScopedTransition s) (transitions_of (globals_of s) c)
+  pub transitions_scoped : Each (λ t. transition (name_tables s) place body t ≡ []) c.transitions → Each (IsScopedTransition s) (transitions_of (globals_of s) c)
   transitions_scoped k = each_numbered_flat (IsScopedTransition s) (λ t. map (new_transition (globals_of s) c t) (sources c t.1.source)) 1 c.transitions
-      (λ n t m. transition_scoped n t (each_one (λ t. transition (whole s) place body t ≡ []) c.transitions t k m))
+      (λ n t m. transition_scoped n t (each_one (λ t. transition (name_tables s) place body t ≡ []) c.transitions t k m))

@@ -1,18 +1,19 @@
 -- A macro or a function that is used without a breach was declared before.
-use Rattle.std.proofs.Common.{◌≡◌, ℕ, zero, suc, ◌+◌, ◌<◌, Bool, true, false, cond, not, ◌||◌, List, [], ◌∷◌, ◌++◌, length, flat_map, is_some, Some, None, ⊎_elim, refl, sym, ap, ◌∙◌, subst, arith, nat_lt, ltb-true, slice_get, true≢false}
+use Rattle.std.proofs.Common.{◌≡◌, ℕ, zero, suc, ◌+◌, ◌<◌, Bool, true, false, cond, List, [], ◌∷◌, ◌++◌, length, flat_map, is_some, Some, None, ⊎_elim, refl, sym, ap, ◌∙◌, subst, arith, ltb-true, slice_get, true≢false}
 use Rattle.std.specs.List.{position_from}
+use Rattle.std.proofs.lemmas.Grind.{flat_map-append}
 use Rattle.rsml_syntax.specs.declared.syntax.Spec.{Spec}
 use Rattle.rsml_syntax.specs.declared.syntax.Decl.{Decl}
 use Rattle.rsml_syntax.specs.declared.want.Want.{Want}
-use Rattle.rsml_syntax.specs.Names.{Name, same, place_of, is_in}
-use Rattle.rsml_syntax.specs.Globals.{Known, name_of, names_of, known_by}
-use Rattle.rsml_syntax.specs.Scopes.{Scope}
-use Rattle.rsml_syntax.specs.Uses.{is_definition, used, fits}
-use Rattle.rsml_syntax.specs.Rules.{whole}
+use Rattle.rsml_syntax.specs.text.Names.{Name, same, place_of, is_in}
+use Rattle.rsml_syntax.specs.rules.Globals.{Known, name_of, names_of, known_by}
+use Rattle.rsml_syntax.specs.rules.Scopes.{Scope}
+use Rattle.rsml_syntax.specs.rules.Uses.{is_definition, used, fits}
+use Rattle.rsml_syntax.specs.rules.Rules.{name_tables}
 use Rattle.rsml_meaning.specs.Words.{IsOne}
 use Rattle.rsml_meaning.proofs.Same.{name_same}
 use Rattle.one_run.proofs.Globals.{Means, all_known, beside, position_from_on}
-use Rattle.one_run.proofs.rules.Clean.{names_in, flat_map_append}
+use Rattle.rsml_syntax.proofs.Clean.{names_in}
 use Rattle.one_run.proofs.rules.Declared.{as_long}
 use Rattle.one_run.proofs.rules.Mentions.{used_is}
 
@@ -50,23 +51,18 @@ back_place name xs ys h = let r = found 0 xs h in (r.0, r.1 ∙ ap (λ n. Some n
 
 -- a macro or a function that is used was declared before
 pub used_before : (s : Spec) (before after : List Decl) (at : Scope) (want : Want) (name : Name) → s.decls ≡ before ++ after → at.before ≡ length (names_in before)
-    → ((k : Known) → fits want k ≡ true → is_definition k ≡ true) → used (whole s) at want name ≡ [] → (d : Decl) × IsOne d before × (is_definition (record { decl = d; value = None }) ≡ true) × (name_of d ≡ name)
+    → ((k : Known) → fits want k ≡ true → is_definition k ≡ true) → used (name_tables s) at want name ≡ [] → (d : Decl) × IsOne d before × (is_definition (record { decl = d; value = None }) ≡ true) × (name_of d ≡ name)
 used_before s before after at want name e b f h =
     let u = used_is s at want name h in
     let defines = f u.known u.fit in
-    let below = subst (λ n. u.place < n) b (ltb-true u.place at.before (or_not (nat_lt u.place at.before) (is_definition u.known) u.early defines)) in
-    let names : names_in s.decls ≡ names_in before ++ names_in after = ap names_in e ∙ flat_map_append names_of before after in
-    let known : flat_map known_by s.decls ≡ flat_map known_by before ++ flat_map known_by after = ap (flat_map known_by) e ∙ flat_map_append known_by before after in
+    let below = subst (λ n. u.place < n) b (ltb-true u.place at.before (u.early defines)) in
+    let names : names_in s.decls ≡ names_in before ++ names_in after = ap names_in e ∙ flat_map-append names_of before after in
+    let known : flat_map known_by s.decls ≡ flat_map known_by before ++ flat_map known_by after = ap (flat_map known_by) e ∙ flat_map-append known_by before after in
     let long = as_long (Means before) (names_in before) (flat_map known_by before) (all_known before) in
     let at_front = front_place (same name) 0 u.place (names_in before) (names_in after) (ap (place_of name) (sym names) ∙ u.at_place ∙ ap (λ n. Some n) (omega arith)) below in
     let there = sym (front_get u.place (flat_map known_by before) (flat_map known_by after) (subst (λ n. u.place < n) (sym long) below)) ∙ ap (λ z. slice_get z u.place) (sym known) ∙ u.there in
     let r = beside (Means before) (same name) (names_in before) (flat_map known_by before) 0 u.place u.known (all_known before) at_front there in
     (u.known.decl, r.2.among, defines, r.2.named (no_value r.0 u.known defines r.2) ∙ sym (name_same name r.0 r.1))
   where
-    or_not : (a c : Bool) → (a || not c) ≡ true → c ≡ true → a ≡ true
-    or_not true c h k = refl
-    or_not false true h k = h
-    or_not false false h k = k
-
     no_value : (x : Name) (k : Known) → is_definition k ≡ true → Means before x k → k.value ≡ None
     no_value x k d m = ⊎_elim (λ v. v) (λ z. absurd (true≢false (sym d ∙ ap (λ y. is_definition (record { decl = y; value = k.value })) z))) m.valued

@@ -1,7 +1,7 @@
 -- Names that are in a list.
 use Rattle.std.proofs.Common.{◌≡◌, ℕ, ◌+◌, Bool, true, false, cond, ◌||◌, List, [], ◌∷◌, ◌++◌, is_some, Some, inl, inr, ⊎_elim, ◌⊎◌, refl, sym, ◌∙◌}
 use Rattle.std.specs.List.{list_any, position_from}
-use Rattle.rsml_syntax.specs.Names.{Name, same, is_in}
+use Rattle.rsml_syntax.specs.text.Names.{Name, same, is_in}
 use Rattle.rsml_meaning.proofs.Same.{name_same, name_itself}
 use Rattle.one_run.proofs.Lists.{or_left, or_right, or_cases, any_front, any_back}
 

@@ -11,18 +11,18 @@ use Rattle.rsml_syntax.specs.declared.syntax.Index.TheVariants as index
 use Rattle.rsml_syntax.specs.declared.syntax.Decl.{Decl}
 use Rattle.rsml_syntax.specs.declared.syntax.Decl.TheVariants as decl
 use Rattle.rsml_syntax.specs.declared.want.Want.TheVariants as want
-use Rattle.rsml_syntax.specs.Names.{Name, same}
-use Rattle.rsml_syntax.specs.Globals.{Known, Globals, signed, constant_of, constant, amount_of, up_to, indices, meaning}
-use Rattle.rsml_syntax.specs.Comparisons.{index_number}
-use Rattle.rsml_syntax.specs.Breaches.{breach}
-use Rattle.rsml_syntax.specs.Scopes.{Scope, size_number, is_up_to, bound_of, is_name_index, is_indexed}
-use Rattle.rsml_syntax.specs.Uses.{fits, is_amount, amount_used, sized}
-use Rattle.rsml_syntax.specs.Rules.{whole}
+use Rattle.rsml_syntax.specs.text.Names.{Name, same}
+use Rattle.rsml_syntax.specs.rules.Globals.{Known, Globals, signed, constant_of, constant, amount_of, up_to, indices, meaning}
+use Rattle.rsml_syntax.specs.limits.Comparisons.{index_number}
+use Rattle.rsml_syntax.specs.rules.Breaches.{breach}
+use Rattle.rsml_syntax.specs.rules.Scopes.{Scope, size_number, is_up_to, bound_of, is_name_index, is_indexed}
+use Rattle.rsml_syntax.specs.rules.Uses.{fits, is_amount, amount_used, sized}
+use Rattle.rsml_syntax.specs.rules.Rules.{name_tables}
 use Rattle.rsml_meaning.specs.Words.{IsOne}
 use Rattle.rsml_meaning.specs.Instances.{globals_of}
 use Rattle.rsml_meaning.specs.Truth.{within}
 use Rattle.one_run.proofs.Globals.{in_up_to}
-use Rattle.one_run.proofs.rules.Clean.{no_front, no_back, holds}
+use Rattle.rsml_syntax.proofs.Clean.{no_front, no_back, holds}
 use Rattle.one_run.proofs.rules.Mentions.{used_is}
 
 -- Numbers.
@@ -73,15 +73,15 @@ constant_is g name k e f = by_parts k.decl k.value refl f
     by_parts (decl.Receive n size inputs raised) None q f = absurd (true≢false (sym f))
     by_parts (decl.Send n size names cases) None q f = absurd (true≢false (sym f))
 
-pub size_is : (s : Spec) (at : Scope) (name : Name) (size : Option Amount) → sized (whole s) at name size ≡ [] → IsSized (globals_of s) size
+pub size_is : (s : Spec) (at : Scope) (name : Name) (size : Option Amount) → sized (name_tables s) at name size ≡ [] → IsSized (globals_of s) size
 size_is s at name None h = tt
 size_is s at name (Some (amounts.Number n)) h =
-    let right = holds 5 name (is_amount (whole s) (amounts.Number n)) (no_front (breach 5 name (not (is_amount (whole s) (amounts.Number n)))) (amount_used (whole s) at (amounts.Number n)) h) in
+    let right = holds 5 name (is_amount (name_tables s) (amounts.Number n)) (no_front (breach 5 name (not (is_amount (name_tables s) (amounts.Number n)))) (amount_used (name_tables s) at (amounts.Number n)) h) in
     let r = up_to_64 (pos n) right in
     (r.0, ap (λ z. Some z) r.1, r.2)
 size_is s at name (Some (amounts.Name x)) h =
-    let right = holds 5 name (is_amount (whole s) (amounts.Name x)) (no_front (breach 5 name (not (is_amount (whole s) (amounts.Name x)))) (amount_used (whole s) at (amounts.Name x)) h) in
-    let u = used_is s at want.Constant x (no_back (breach 5 name (not (is_amount (whole s) (amounts.Name x)))) (amount_used (whole s) at (amounts.Name x)) h) in
+    let right = holds 5 name (is_amount (name_tables s) (amounts.Name x)) (no_front (breach 5 name (not (is_amount (name_tables s) (amounts.Name x)))) (amount_used (name_tables s) at (amounts.Name x)) h) in
+    let u = used_is s at want.Constant x (no_back (breach 5 name (not (is_amount (name_tables s) (amounts.Name x)))) (amount_used (name_tables s) at (amounts.Name x)) h) in
     let c = constant_is (globals_of s) x u.known u.is u.fit in
     let r = up_to_64 c.0 (subst (λ o. option_map_or (is_up_to (pos 64)) o true ≡ true) c.1 right) in
     (r.0, c.1 ∙ ap (λ z. Some z) r.1, r.2)

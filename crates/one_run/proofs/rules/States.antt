@@ -6,20 +6,20 @@ use Rattle.std.specs.Cmp.{second_so}
 use Rattle.rsml_syntax.specs.declared.syntax.Spec.{Spec}
 use Rattle.rsml_syntax.specs.declared.syntax.Amount.{Amount}
 use Rattle.rsml_syntax.specs.declared.syntax.Body.{Body, Basic, One', All', Row_of-StateDecl, end_of-StateDecl, more_of-StateDecl}
-use Rattle.rsml_syntax.specs.Names.{Name, is_in}
-use Rattle.rsml_syntax.specs.Globals.{indices}
-use Rattle.rsml_syntax.specs.Parts.{Part, Opens, Closes, nearer, placed, inside, row_parts, children_of, top_of}
-use Rattle.rsml_syntax.specs.Parts as part
-use Rattle.rsml_syntax.specs.Owners.{is_count}
-use Rattle.rsml_syntax.specs.States.{child_names, state_scope, buses, transition}
-use Rattle.rsml_syntax.specs.Rules.{whole, refused}
+use Rattle.rsml_syntax.specs.text.Names.{Name, is_in}
+use Rattle.rsml_syntax.specs.rules.Globals.{indices}
+use Rattle.rsml_syntax.specs.grammar.Parts.{Opens, Closes, nearer, placed, inside, row_parts, children_of}
+use Rattle.rsml_syntax.specs.grammar.Parts as part
+use Rattle.rsml_syntax.specs.rules.Owners.{is_count}
+use Rattle.rsml_syntax.specs.rules.States.{child_names, state_scope, buses, transition}
+use Rattle.rsml_syntax.specs.rules.Rules.{name_tables, broken_rule}
 use Rattle.rsml_meaning.specs.Words.{Each, IsOne, Path, at, child_path}
-use Rattle.rsml_meaning.specs.Instances.{State, Component, globals_of, row_names, component_of, new_state, row_inside, states, components}
+use Rattle.rsml_meaning.specs.Instances.{State, Component, globals_of, row_names, new_state, row_inside, states, components}
 use Rattle.rsml_meaning.specs.Instances as made
 use Rattle.rsml_meaning.specs.Transitions.{innermost}
 use Rattle.one_run.specs.Scoped.{IsState}
 use Rattle.one_run.proofs.Lists.{each_append, each_flat_map, one_map, one_of_map, one_front, one_back, one_flat_map}
-use Rattle.one_run.proofs.rules.Clean.{Clean, clean_states, front_each, back_each, no_front, no_back, none_each}
+use Rattle.rsml_syntax.proofs.Clean.{Clean, clean_states, front_each, back_each, no_front, no_back, none_each}
 use Rattle.one_run.proofs.rules.Sizes.{IsSized}
 use Rattle.one_run.proofs.rules.Used.{Inside}
 use Rattle.one_run.proofs.rules.Children.{inner_index, opened_size, opened_body, child_is_state}
@@ -38,27 +38,27 @@ abbrev AreStates : Spec → List State → Type 0
 AreStates s xs = (x : State) → IsOne x xs → IsOne x (states s)
 
 -- what is known of a state with this body at this path
-module _ (s : Spec) (h : refused s ≡ None) (name : Name) (repeated : Bool) (size around : Option Amount) (in_one : Bool) where
+module _ (s : Spec) (h : broken_rule s ≡ None) (name : Name) (repeated : Bool) (size around : Option Amount) (in_one : Bool) where
   abbrev y : Body → part.State
   y body = placed name repeated size around in_one body
 
   state_good : (body : Body) (path : Path) → Clean s (Opens (y body)) → Clean s (Closes (y body)) → Each (Clean s) (inside (nearer size around) body)
-      → Inside s (state_scope (whole s) (y body)) (nearer size around) (innermost path) → AreStates s (made.inside (globals_of s) body path) → Good s (new_state body path)
+      → Inside s (state_scope (name_tables s) (y body)) (nearer size around) (innermost path) → AreStates s (made.inside (globals_of s) body path) → Good s (new_state body path)
   state_good Basic path opens closes inner o are = tt
   state_good (All' shape row) path opens closes inner o are = tt
   state_good (One' first shape row bs ts) path opens closes inner o are =
       let body = One' first shape row bs ts in
       let names = names_of_row _ row in
-      let place = state_scope (whole s) (y body) in
+      let place = state_scope (name_tables s) (y body) in
       let wrong = buses (child_names body) (child_names body) bs in
-      let members = members_are (child_names body) (child_names body) bs (no_front wrong (flat_map (transition (whole s) place body) ts) closes) in
+      let members = members_are (child_names body) (child_names body) bs (no_front wrong (flat_map (transition (name_tables s) place body) ts) closes) in
       record {
         default = subst (λ z. is_in first z ≡ true) (sym names) (second_so (is_count 64 (length (children_of body))) (option_map_or (λ first. is_in first (child_names body)) (Some first) true) (opened_body s (y body) opens));
         transitions = transitions_scoped s h place (nearer size around) (made.new_component path first (row_names row) bs ts) o body names refl
             (λ x k. let r = one_of_map (λ (z : State). z.path) (row_inside (globals_of s) row path) (child_path path (at x 0)) (child_is_state s (nearer size around) [] _ row path x inner k) in
             subst (λ p. IsState s p) (sym r.2) (one_map (λ (z : State). z.path) (states s) r.0 (are r.0 r.1)))
             (subst (λ z. Each (AreMembers z) bs) (sym names) members)
-            (none_each (transition (whole s) place body) ts (no_back wrong (flat_map (transition (whole s) place body) ts) closes));
+            (none_each (transition (name_tables s) place body) ts (no_back wrong (flat_map (transition (name_tables s) place body) ts) closes));
       }
 
 -- The walk over all states.
@@ -67,7 +67,7 @@ nearer_sized : (s : Spec) (size around : Option Amount) → IsSized (globals_of 
 nearer_sized s None around z a = a
 nearer_sized s (Some amount) around z a = z
 
-module _ (s : Spec) (h : refused s ≡ None) where
+module _ (s : Spec) (h : broken_rule s ≡ None) where
   mutual
     body_good : (body : Body) (around : Option Amount) (path : Path) → IsSized (globals_of s) around → IsOne (innermost path) (indices (globals_of s) around)
         → AreStates s (made.inside (globals_of s) body path) → Each (Clean s) (inside around body) → Each (Good s) (made.inside (globals_of s) body path)

@@ -6,12 +6,12 @@ use Rattle.rsml_syntax.specs.declared.syntax.Amount.{Amount}
 use Rattle.rsml_syntax.specs.declared.syntax.Decl.{Decl}
 use Rattle.rsml_syntax.specs.declared.syntax.Decl.TheVariants as decl
 use Rattle.rsml_syntax.specs.declared.want.Want.TheVariants as want
-use Rattle.rsml_syntax.specs.Globals.{size_of, name_of, indices}
-use Rattle.rsml_syntax.specs.Comparisons.{index_number}
-use Rattle.rsml_syntax.specs.Scopes.{Scope, size_number, is_indexed}
-use Rattle.rsml_syntax.specs.Uses.{fits}
-use Rattle.rsml_syntax.specs.Declarations.{scope_at}
-use Rattle.rsml_syntax.specs.Rules.{whole, refused}
+use Rattle.rsml_syntax.specs.rules.Globals.{size_of, name_of, indices}
+use Rattle.rsml_syntax.specs.limits.Comparisons.{index_number}
+use Rattle.rsml_syntax.specs.rules.Scopes.{Scope, size_number, is_indexed}
+use Rattle.rsml_syntax.specs.rules.Uses.{fits}
+use Rattle.rsml_syntax.specs.rules.Declarations.{scope_at}
+use Rattle.rsml_syntax.specs.rules.Rules.{name_tables, broken_rule}
 use Rattle.rsml_meaning.specs.Words.{IsOne, at}
 use Rattle.rsml_meaning.specs.Instances.{globals_of, instances, events_of}
 use Rattle.rsml_meaning.specs.Truth.{within, instance}
@@ -19,16 +19,16 @@ use Rattle.rsml_meaning.specs.Interfaces.{functions_of, new_function}
 use Rattle.one_run.specs.Scoped.{IsEvent, IsFunction}
 use Rattle.one_run.proofs.Lists.{each_one, one_map, one_flat_map}
 use Rattle.one_run.proofs.Globals.{Means}
-use Rattle.one_run.proofs.rules.Clean.{IsPlaced, each_placed, names_in}
+use Rattle.rsml_syntax.proofs.Clean.{IsPlaced, each_placed, names_in}
 use Rattle.one_run.proofs.rules.Declared.{size_clean}
 use Rattle.one_run.proofs.rules.Mentions.{IsMentioned}
 use Rattle.one_run.proofs.rules.Sizes.{IsSized, size_is, index_is_in}
 
 -- the size of a declaration is a number from 1 on
-pub decl_sized : (s : Spec) → refused s ≡ None → (d : Decl) → IsOne d s.decls → IsSized (globals_of s) (size_of d)
+pub decl_sized : (s : Spec) → broken_rule s ≡ None → (d : Decl) → IsOne d s.decls → IsSized (globals_of s) (size_of d)
 decl_sized s h d m =
     let p = each_one (IsPlaced s) s.decls d (each_placed s h) m in
-    size_is s (scope_at (whole s) (length (names_in p.before)) (size_of d)) (name_of d) (size_of d) (size_clean (whole s) (length (names_in p.before)) d p.clean)
+    size_is s (scope_at (name_tables s) (length (names_in p.before)) (size_of d)) (name_of d) (size_of d) (size_clean (name_tables s) (length (names_in p.before)) d p.clean)
 
 -- An instance at which names are mentioned: its size, and its index.
 pub record Inside (s : Spec) (place : Scope) (around : Option Amount) (i : ℕ) : Type 0 where
@@ -42,7 +42,7 @@ index_is : (s : Spec) (place : Scope) (around : Option Amount) (i : ℕ) (m : Me
     → is_indexed (globals_of s) place (size_number (globals_of s) size) m.index ≡ true → IsOne (index_number (globals_of s) (within i) m.index) (indices (globals_of s) size)
 index_is s place around i m size o z h = index_is_in (globals_of s) place around size m.index i o.this o.plain o.sized z o.among h
 
-module _ (s : Spec) (h : refused s ≡ None) (place : Scope) (around : Option Amount) (i : ℕ) (o : Inside s place around i) (m : Mention) where
+module _ (s : Spec) (h : broken_rule s ≡ None) (place : Scope) (around : Option Amount) (i : ℕ) (o : Inside s place around i) (m : Mention) where
   pub event_is : IsMentioned s place want.Event m → IsEvent s (instance (globals_of s) (within i) m)
   event_is u = by_parts u.names.known.decl u.names.known.value u.names.fit u.names.means u.indexed
     where

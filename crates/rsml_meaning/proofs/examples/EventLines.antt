@@ -1,10 +1,11 @@
 -- What event lines break or tell, and the first faults of event files.
-use Rattle.std.specs.Prelude.{◌≡◌, refl, List, [], ◌∷◌, map, Option, Some, None, ℤ, pos, codes, replicate}
+use Rattle.std.specs.Prelude.{◌≡◌, refl, List, [], ◌∷◌, ◌++◌, map, Option, Some, None, ℤ, pos, negsuc, codes, replicate}
 use Rattle.std.specs.Str.{is_utf8, chars}
 use Prim.Native.String.{String}
 use Rattle.rsml_syntax.specs.declared.syntax.Spec.{Spec}
 use Rattle.rsml_meaning.specs.EventLines.{LineRule, E1, E2, E3, E4, E5, E6, E7, Outcome, breaks, tells, read_line}
 use Rattle.rsml_meaning.specs.EventFiles.{Limits, program_limits, FileFault, long_line, broken_line, long_file, first_fault}
+use Rattle.rsml_meaning.proofs.values.Colours.{colours}
 use Rattle.rsml_meaning.proofs.values.Height.{height}
 use Rattle.rsml_meaning.proofs.values.Lamp.{lamp}
 use Rattle.rsml_meaning.proofs.values.Tracks.{tracks}
@@ -50,6 +51,17 @@ the_rules_that_lines_of_the_tracks_break :
 unfolding is_utf8 chars lib.Utf8.encode
 the_rules_that_lines_of_the_tracks_break = refl
 
+-- the value of a later field before the range of an earlier one, an enumeration by its names alone, one sign, no empty value
+the_rules_that_lines_of_the_colours_break :
+    map (rule colours) ("R X=9 Y=Green" ∷ "R X=1 Y=1" ∷ "R X=+1 Y=Red" ∷ "R X=--1 Y=Red" ∷ "R X= Y=Red" ∷ "R Y=Red X=1" ∷ "R X=1 Y=Red z" ∷ "R X=9 Y=Red" ∷ "R X=-2 Y=Red" ∷ [])
+    ≡ Some E6 ∷ Some E6 ∷ Some E6 ∷ Some E6 ∷ Some E6 ∷ Some E4 ∷ Some E5 ∷ Some E7 ∷ None ∷ []
+unfolding is_utf8 chars lib.Utf8.encode
+the_rules_that_lines_of_the_colours_break = refl
+
+the_numbers_of_a_line : numbers (read_line colours (codes "R X=-2 Y=Blue")) ≡ negsuc 1 ∷ pos 1 ∷ []
+unfolding is_utf8 chars lib.Utf8.encode
+the_numbers_of_a_line = refl
+
 -- Files.
 
 abbrev fault : Spec → String → Option FileFault
@@ -68,6 +80,10 @@ a_line_may_have_so_many_bytes = refl
 
 a_line_that_is_too_long : first_fault lamp program_limits (replicate 4097 32) ≡ Some (long_line 1)
 a_line_that_is_too_long = refl
+
+-- the carriage return is counted
+a_carriage_return_is_a_byte_of_the_line : first_fault lamp program_limits (replicate 4096 32 ++ codes "\r") ≡ Some (long_line 1)
+a_carriage_return_is_a_byte_of_the_line = refl
 
 -- Small limits: lines of at most 12 bytes, files of at most 20.
 

@@ -1,5 +1,5 @@
 -- Groups, lines, conditions and verdicts, computed over all worlds.
-use Rattle.std.specs.Prelude.{◌≡◌, refl, ℕ, true, false, List, [], ◌∷◌, map, pos, codes}
+use Rattle.std.specs.Prelude.{◌≡◌, refl, ℕ, true, false, List, [], ◌∷◌, map, length, pos, codes}
 use Rattle.std.specs.Fmt.{digits}
 use Rattle.rsml_syntax.specs.declared.syntax.Spec.{Spec}
 use Rattle.rsml_meaning.specs.Words.{Instance, at, Path}
@@ -13,6 +13,7 @@ use Rattle.rsml_meaning.specs.Texts.{Text, label}
 use Rattle.rsml_meaning.specs.Report.{finding, group_text}
 use Rattle.rsml_meaning.proofs.Verdicts.{verdict_is}
 use Rattle.rsml_meaning.proofs.examples.Worlds.{world, state_at}
+use Rattle.rsml_meaning.proofs.values.Deep.{deep}
 use Rattle.rsml_meaning.proofs.values.Grades.{grades}
 use Rattle.rsml_meaning.proofs.values.Lamp.{lamp}
 use Rattle.rsml_meaning.proofs.values.LampShort.{lamp_short}
@@ -45,6 +46,10 @@ groups_stand_by_state_and_then_by_event = refl
 
 a_send_has_a_group_for_each_event : group_texts panel ≡ map codes ("send Light on Tick" ∷ [])
 a_send_has_a_group_for_each_event = refl
+
+-- of states, of two sends and of two functions, arrays once for each index
+deep_has_14_groups : length (groups deep) ≡ 14
+deep_has_14_groups = refl
 
 the_line_of_a_lamp_that_is_on : line_labels lamp lamp_on ≡ map codes ("Lamp 3 move On -> Off" ∷ "Lamp 4 stay On" ∷ [])
 unfolding digits

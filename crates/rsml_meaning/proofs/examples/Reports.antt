@@ -1,5 +1,5 @@
 -- Reports, byte for byte: their answers are right, and this is their text.
-use Rattle.std.specs.Prelude.{◌≡◌, refl, ℕ, true, false, List, [], ◌∷◌, Option, Some, None, ℤ, pos, codes}
+use Rattle.std.specs.Prelude.{refl, ℕ, Bool, true, false, List, [], ◌∷◌, Option, Some, None, pos, codes}
 use Rattle.std.specs.Fmt.{digits}
 use Rattle.rsml_syntax.specs.declared.world.World.{World}
 use Rattle.rsml_meaning.specs.Instances.{events}
@@ -20,7 +20,8 @@ use Rattle.rsml_meaning.proofs.values.Meet.{meet}
 use Rattle.rsml_meaning.proofs.values.Ring.{ring}
 use Rattle.rsml_meaning.proofs.values.Top.{top}
 
-abbrev answers : Option ℕ → Option ClashFound → List Rattle.std.specs.Prelude.Bool → List Verdict → Answers
+-- what is told of one external event, of the events and of the groups
+abbrev pub answers : Option ℕ → Option ClashFound → List Bool → List Verdict → Answers
 answers length clash loops verdicts = record { lengths = length ∷ []; clashes = clash ∷ []; loops = loops; verdicts = verdicts }
 
 the_lamp_is_certified : Certified lamp

@@ -12,6 +12,7 @@ use Rattle.rsml_meaning.specs.Truth.{view, within, simple}
 use Rattle.rsml_meaning.specs.Runs.{first_world}
 use Rattle.rsml_meaning.specs.Texts.{Text, path_text, cell_text}
 use Rattle.rsml_meaning.proofs.Written.{plain, in_state}
+use Rattle.rsml_meaning.proofs.values.Deep.{deep}
 use Rattle.rsml_meaning.proofs.values.Lamp.{lamp}
 use Rattle.rsml_meaning.proofs.values.Nest.{nest}
 use Rattle.rsml_meaning.proofs.values.Plant.{plant}
@@ -44,6 +45,11 @@ an_array_stands_once_for_each_index = refl
 
 previous_cells_stand_last : cell_texts rise ≡ map codes ("Alt" ∷ "previous Alt" ∷ [])
 previous_cells_stand_last = refl
+
+-- an input that a function names after `previous` has previous cells at all its indices
+an_array_of_inputs_has_previous_cells : cell_texts deep ≡ map codes ("X[1]" ∷ "X[2]" ∷ "Col" ∷ "previous X[1]" ∷ "previous X[2]" ∷ [])
+unfolding Rattle.std.specs.Fmt.digits
+an_array_of_inputs_has_previous_cells = refl
 
 tcas_has_124_states : length (states tcas) ≡ 124
 tcas_has_124_states = refl

@@ -4,8 +4,8 @@ use Rattle.std.specs.List.{list_all}
 use Rattle.rsml_syntax.specs.declared.syntax.Spec.{Spec}
 use Rattle.rsml_syntax.specs.declared.syntax.Relation.TheVariants as relations
 use Rattle.rsml_syntax.specs.declared.syntax.Body.{Basic}
-use Rattle.rsml_syntax.specs.Rules.{refused}
-use Rattle.rsml_syntax.specs.Limits.{total, over, states_at, transitions_at, cells_at, rows_at, thresholds_and_keys}
+use Rattle.rsml_syntax.specs.rules.Rules.{broken_rule}
+use Rattle.rsml_syntax.specs.limits.Limits.{total, over, states_at, transitions_at, cells_at, rows_at, thresholds_and_keys}
 use Rattle.rsml_syntax.proofs.Examples.Writing.{up_to, plus, plain, by, this, name, single, in_state, holds, compare, row, some, every, table, range, from, input, event, macro, receive, state, array, all, one, move, stay, specification, numbers, num}
 
 -- the specification of `demo N`
@@ -30,7 +30,7 @@ demo n =
     ∷ []))
 
 abbrev pub is_kept : Spec → Bool
-is_kept s = is_none (refused s) && is_none (over s)
+is_kept s = is_none (broken_rule s) && is_none (over s)
 
 -- it keeps all rules and limits for each N from 1 to 64
 pub demos_are_kept : list_all (λ n. is_kept (demo n)) (numbers 64) ≡ true

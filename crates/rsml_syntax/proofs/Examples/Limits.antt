@@ -6,10 +6,10 @@ use Rattle.rsml_syntax.specs.declared.syntax.Decl.TheVariants as decl
 use Rattle.rsml_syntax.specs.declared.syntax.Index.TheVariants as indices
 use Rattle.rsml_syntax.specs.declared.syntax.Row.{Row}
 use Rattle.rsml_syntax.specs.declared.syntax.Body.{Body, Basic}
-use Rattle.rsml_syntax.specs.Names.{Name}
-use Rattle.rsml_syntax.specs.Rules.{refused}
-use Rattle.rsml_syntax.specs.Limits as limit
-use Rattle.rsml_syntax.specs.Limits.{over, Keeps, total, rows_at}
+use Rattle.rsml_syntax.specs.text.Names.{Name}
+use Rattle.rsml_syntax.specs.rules.Rules.{broken_rule}
+use Rattle.rsml_syntax.specs.limits.Limits as limit
+use Rattle.rsml_syntax.specs.limits.Limits.{over, Keeps, total, rows_at}
 use Rattle.rsml_syntax.proofs.Examples.Writing.{up_to, plus, plain, previous, single, num, in_state, compare, row, some, always, table, range, from, input, event, macro, case, function, Child, state, array, all, one, bus, stay, spec, shown, numbers}
 
 -- the name of a number, in two letters: Ab is that of 1
@@ -25,17 +25,17 @@ basic n = record { name = letters n; size = None; body = Basic }
 abbrev rows : ℕ → List Row
 rows n = replicate n (row (in_state (plain "A" ∷ [])) "T")
 
-a_table_may_have_64_rows : refused (spec (macro "M" None (rows 64) ∷ []) Basic) ≡ None
+a_table_may_have_64_rows : broken_rule (spec (macro "M" None (rows 64) ∷ []) Basic) ≡ None
 a_table_may_have_64_rows = refl
 
-a_table_has_at_most_64_rows : refused (spec (macro "M" None (rows 65) ∷ []) Basic) ≡ shown 8 "M"
+a_table_has_at_most_64_rows : broken_rule (spec (macro "M" None (rows 65) ∷ []) Basic) ≡ shown 8 "M"
 a_table_has_at_most_64_rows = refl
 
 -- S10: a state may have 64 children, an array counted once
-a_state_may_have_64_children : refused (spec [] (all (array "B" (up_to 64) Basic ∷ map basic (numbers 63)))) ≡ None
+a_state_may_have_64_children : broken_rule (spec [] (all (array "B" (up_to 64) Basic ∷ map basic (numbers 63)))) ≡ None
 a_state_may_have_64_children = refl
 
-a_state_has_at_most_64_children : refused (spec [] (all (map basic (numbers 65)))) ≡ shown 10 "A"
+a_state_has_at_most_64_children : broken_rule (spec [] (all (map basic (numbers 65)))) ≡ shown 10 "A"
 a_state_has_at_most_64_children = refl
 
 -- L1: STATE INSTANCES

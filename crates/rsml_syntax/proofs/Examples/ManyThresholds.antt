@@ -6,10 +6,10 @@ use Rattle.rsml_syntax.specs.declared.syntax.Relation.TheVariants as relations
 use Rattle.rsml_syntax.specs.declared.syntax.Row.{Row}
 use Rattle.rsml_syntax.specs.declared.syntax.Body.{Basic}
 use Rattle.rsml_syntax.specs.declared.syntax.Spec.{Spec}
-use Rattle.rsml_syntax.specs.Globals.{Globals, globals}
-use Rattle.rsml_syntax.specs.Comparisons.{Cell, OfNumber, OfCell, Comparison, rows_comparisons}
-use Rattle.rsml_syntax.specs.Thresholds.{Threshold, thresholds, same_threshold, keys, same_key}
-use Rattle.rsml_syntax.specs.Limits.{distinct, thresholds_and_keys, all_comparisons}
+use Rattle.rsml_syntax.specs.rules.Globals.{Globals, globals}
+use Rattle.rsml_syntax.specs.limits.Comparisons.{InputCell, OfNumber, OfCell, Comparison, rows_comparisons}
+use Rattle.rsml_syntax.specs.limits.Thresholds.{Threshold, thresholds, same_threshold, keys, same_key}
+use Rattle.rsml_syntax.specs.limits.Limits.{distinct, thresholds_and_keys, all_comparisons}
 use Rattle.rsml_syntax.proofs.Examples.Writing.{plus, the, num, compare, row, range, from, input, macro, spec}
 
 -- X < c
@@ -29,7 +29,7 @@ ascending n = spec (range "R" (plus 0) (plus 3000) ∷ input "X" None "R" (from 
 abbrev of : List Row → Globals
 of rows = globals (range "R" (plus 0) (plus 3000) ∷ input "X" None "R" (from (plus 0)) ∷ macro "M" None rows ∷ [])
 
-abbrev x : Cell
+abbrev x : InputCell
 x = record { previous = false; input = codes "X"; at = 0 }
 
 abbrev comparison : ℕ → Comparison

@@ -1,11 +1,9 @@
 -- The places of two faults of syntax.
-use Rattle.std.specs.Char.{is_ascii_alphabetic}
-use Rattle.std.specs.Prelude.{◌≡◌, ℕ, zero, suc, ◌+◌, ◌≤◌, Bool, true, false, List, [], ◌∷◌, ◌++◌, length, drop, Option, Some, None, codes, IsTrue, IsFalse}
-use Rattle.std.proofs.Common.{refl, ap, sym, arith}
+use Rattle.std.specs.Prelude.{◌≡◌, ℕ, zero, suc, Bool, true, false, List, [], ◌∷◌, ◌++◌, drop, Option, Some, None, codes}
+use Rattle.std.proofs.Common.{refl, ap, arith}
 use Rattle.unicode_ident.proofs.IdentLemmas.{is_xid_start-ascii}
 use lib.Utf8.{encode}
 use Rattle.rsml_syntax.specs.declared.edition.Edition.TheVariants as editions
-use Rattle.rsml_syntax.specs.declared.token.Token.{Token}
 use Rattle.rsml_syntax.specs.declared.token.Token.TheVariants as token
 use Rattle.rsml_syntax.specs.declared.token.Word.{Word}
 use Rattle.rsml_syntax.specs.declared.token.Word.TheVariants as words
@@ -14,25 +12,25 @@ use Rattle.rsml_syntax.specs.declared.syntax.Guard.{Guard}
 use Rattle.rsml_syntax.specs.declared.syntax.Guard.TheVariants as guards
 use Rattle.rsml_syntax.specs.declared.syntax.Index.{Index}
 use Rattle.rsml_syntax.specs.declared.syntax.Transition.{Transition}
-use Rattle.rsml_syntax.specs.Names.{Name}
+use Rattle.rsml_syntax.specs.text.Names.{Name}
 use Rattle.rsml_syntax.specs.declared.token.Mark.TheVariants as marks
 use Rattle.rsml_syntax.specs.declared.syntax.Spec.{Spec}
 use Rattle.rsml_syntax.specs.declared.syntax.Body.{Body, Basic, One', All', Row_of-StateDecl, end_of-StateDecl, more_of-StateDecl}
 use Rattle.rsml_syntax.specs.declared.syntax.Bus.{Bus}
 use mathlib.Core.Former.{Count}
 use Rattle.rsml_syntax.specs.declared.syntax.Decl.TheVariants as decls
-use Rattle.rsml_syntax.specs.Grammar.{tokens_of, children_row, each, bus, transition, mark}
-use Rattle.rsml_syntax.specs.Places.{Begins, IsSyntaxPlace}
-use Rattle.rsml_syntax.specs.Tokens.{Tokens, IsFreeName, is_word}
-use Rattle.rsml_syntax.specs.Words.{spelling}
-use Rattle.rsml_syntax.specs.WellFormed.{WellFormed}
+use Rattle.rsml_syntax.specs.grammar.Grammar.{tokens_of, children_row, each, bus, transition, mark}
+use Rattle.rsml_syntax.specs.grammar.Places.{Begins, IsSyntaxPlace}
+use Rattle.rsml_syntax.specs.text.Tokens.{Tokens, IsFreeName}
+use Rattle.rsml_syntax.specs.text.Words.{spelling}
+use Rattle.rsml_syntax.specs.grammar.WellFormed.{WellFormed}
 
 -- `specification A; state A one {`
 abbrev pub opened : Tokens
 opened = token.Word words.Specification ∷ token.Name (codes "A") ∷ token.Mark marks.Semicolon ∷ token.Word words.State ∷ token.Name (codes "A")
     ∷ token.Word words.One ∷ token.Mark marks.OpenBrace ∷ []
 
-name_A : IsFreeName editions.Second (codes "A")
+pub name_A : IsFreeName editions.Second (codes "A")
 unfolding spelling encode
 name_A = (codes "A", refl, refl, rw (is_xid_start-ascii 65 (omega arith)) refl, refl)
 
@@ -50,7 +48,7 @@ opened_begins : Begins opened
 opened_begins = (shortest, token.Word words.Default ∷ token.Name (codes "A") ∷ token.Mark marks.Semicolon ∷ token.Mark marks.CloseBrace ∷ [], shortest_is, refl)
 
 -- the word at a place
-word_at : ℕ → Tokens → Option Word
+unfoldable pub word_at : ℕ → Tokens → Option Word
 word_at n [] = None
 word_at zero (token.Word w ∷ ts) = Some w
 word_at zero (t ∷ ts) = None
@@ -77,14 +75,14 @@ no_state_follows s more e = by_body s.decls s.body e
 
 -- in `specification A; state A one { state A; }` the fault is at the eighth token
 one_state_without_a_default : IsSyntaxPlace (opened ++ token.Word words.State ∷ token.Name (codes "A") ∷ token.Mark marks.Semicolon ∷ token.Mark marks.CloseBrace ∷ []) 8
-one_state_without_a_default = (
-  opened,
-  token.Word words.State ∷ token.Name (codes "A") ∷ token.Mark marks.Semicolon ∷ token.Mark marks.CloseBrace ∷ [],
-  refl,
-  refl,
-  opened_begins,
-  λ b. no_state_follows b.0 b.1 b.3,
-)
+one_state_without_a_default = record {
+  before = opened;
+  rest = token.Word words.State ∷ token.Name (codes "A") ∷ token.Mark marks.Semicolon ∷ token.Mark marks.CloseBrace ∷ [];
+  split = refl;
+  here = refl;
+  begins = opened_begins;
+  stops = λ b. no_state_follows b.0 b.1 b.3;
+}
 
 name_B : IsFreeName editions.Second (codes "B")
 unfolding spelling encode
@@ -223,4 +221,11 @@ cut_off_is_none s e = by_body s.decls s.body e
 
 -- in `specification A; state A one { default B; state B; stay B on E when` the fault is one past the last token
 text_that_is_cut_off : IsSyntaxPlace cut_off 19
-text_that_is_cut_off = (cut_off, [], refl, refl, cut_off_begins, λ s w. cut_off_is_none s)
+text_that_is_cut_off = record {
+  before = cut_off;
+  rest = [];
+  split = refl;
+  here = refl;
+  begins = cut_off_begins;
+  stops = λ s w. cut_off_is_none s;
+}

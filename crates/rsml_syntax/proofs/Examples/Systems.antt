@@ -3,7 +3,7 @@ use Rattle.std.specs.Prelude.{◌≡◌, [], ◌∷◌, Some, None, refl}
 use Rattle.rsml_syntax.specs.declared.syntax.Spec.{Spec}
 use Rattle.rsml_syntax.specs.declared.syntax.Relation.TheVariants as relations
 use Rattle.rsml_syntax.specs.declared.syntax.Body.{Basic}
-use Rattle.rsml_syntax.specs.Limits.{total, states_at, cells_at, thresholds_and_keys, Keeps}
+use Rattle.rsml_syntax.specs.limits.Limits.{total, states_at, cells_at, thresholds_and_keys, Keeps}
 use Rattle.rsml_syntax.proofs.Examples.Writing.{up_to, plus, minus, plain, by, this, name, previous, single, in_state, holds, compare, row, some, always, table, enumeration, range, constant, from, from_name, input, event, macro, case, function, receive, sent, given, answer, on, send, state, array, all, one, bus, move, stay, specification, the, num}
 
 -- a collision avoidance system with 30 other aircraft

@@ -1,7 +1,6 @@
 -- The token list of the lamp specification, and its layout; and the layout of a specification of one state.
-use Rattle.std.specs.Prelude.{◌≡◌, List, [], ◌∷◌, ◌++◌, Some, codes}
+use Rattle.std.specs.Prelude.{◌≡◌, [], ◌∷◌, ◌++◌, codes}
 use Rattle.std.proofs.Common.{refl}
-use Rattle.std.specs.Fmt.{digits}
 use Prim.Native.String.{String}
 use Rattle.rsml_syntax.specs.declared.syntax.Body.{Basic}
 use Rattle.rsml_syntax.specs.declared.syntax.Relation.TheVariants as relations
@@ -12,12 +11,12 @@ use Rattle.rsml_syntax.specs.declared.token.Token.{Token}
 use Rattle.rsml_syntax.specs.declared.token.Token.TheVariants as token
 use Rattle.rsml_syntax.specs.declared.token.Word.{Word}
 use Rattle.rsml_syntax.specs.declared.token.Word.TheVariants as words
-use Rattle.rsml_syntax.specs.Grammar.{tokens_of}
-use Rattle.rsml_syntax.specs.Layout.{layout}
-use Rattle.rsml_syntax.specs.Marks as mark_words
-use Rattle.rsml_syntax.specs.Tokens.{Tokens}
-use Rattle.rsml_syntax.specs.Words.{spelling}
-use Rattle.rsml_syntax.proofs.Examples.Refused.{lamp}
+use Rattle.rsml_syntax.specs.grammar.Grammar.{tokens_of}
+use Rattle.rsml_syntax.specs.grammar.Layout.{layout}
+use Rattle.rsml_syntax.specs.text.Marks as mark_words
+use Rattle.rsml_syntax.specs.text.Tokens.{Tokens}
+use Rattle.rsml_syntax.specs.text.Words.{spelling}
+use Rattle.rsml_syntax.proofs.Examples.Broken.{lamp}
 use Rattle.rsml_syntax.proofs.Examples.Writing.{compare, row, specification, table, the}
 
 word : Word → Token

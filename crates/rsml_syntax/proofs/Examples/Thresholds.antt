@@ -5,7 +5,7 @@ use Rattle.rsml_syntax.specs.declared.syntax.Sum.{Sum}
 use Rattle.rsml_syntax.specs.declared.syntax.Row.{Row}
 use Rattle.rsml_syntax.specs.declared.syntax.Relation.TheVariants as relations
 use Rattle.rsml_syntax.specs.declared.syntax.Body.{Basic}
-use Rattle.rsml_syntax.specs.Limits.{thresholds_and_keys}
+use Rattle.rsml_syntax.specs.limits.Limits.{thresholds_and_keys}
 use Rattle.rsml_syntax.proofs.Examples.Writing.{up_to, plus, minus, plain, at, by, this, number, name, previous, more, less, sum, single, compare, function_is, row, some, every, always, table, constant, from, input, event, macro, case, function, quiet, on, send, state, array, all, one, bus, stay, spec, the, num, arrayed, unarrayed, switched}
 
 abbrev says : Sum → Relation → Sum → Row

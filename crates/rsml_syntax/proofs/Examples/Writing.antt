@@ -33,8 +33,8 @@ use Rattle.rsml_syntax.specs.declared.syntax.Bus.{Bus}
 use Rattle.rsml_syntax.specs.declared.syntax.Transition.{Transition}
 use Rattle.rsml_syntax.specs.declared.syntax.Body.{Body, One', All', Row_of-StateDecl, end_of-StateDecl, more_of-StateDecl}
 use Rattle.rsml_syntax.specs.declared.syntax.Spec.{Spec}
-use Rattle.rsml_syntax.specs.Names.{Name}
-use Rattle.rsml_syntax.specs.Breaches.{Breach}
+use Rattle.rsml_syntax.specs.text.Names.{Name}
+use Rattle.rsml_syntax.specs.rules.Breaches.{Breach}
 use mathlib.Core.Former.{none_left, list_count, this as child_former}
 
 -- SIZES, MENTIONS, SUMS

@@ -1,15 +1,13 @@
 ghost use Rattle.std.specs.Prelude.{OnOk};
-ghost use Rattle.rsml_syntax.specs.Grammar as grammar;
-ghost use Rattle.rsml_syntax.specs.Printing.{Writes};
+ghost use Rattle.rsml_syntax.specs.grammar.Grammar as grammar;
+ghost use Rattle.rsml_syntax.specs.helpers.Printing.{Writes};
 
 use super::items::{Print, print_arguments, print_block, print_members};
 use super::printer::Printer;
 use super::sums::print_size;
-use crate::list::List;
-use crate::no_memory::NoMemory;
 use crate::syntax::{Amount, Answer, Case, Decl, Initial, Mention, SendCase, Signed, Value};
-use crate::text::Text;
 use crate::token::{Mark, Word};
+use rsml_base::{List, NoMemory, Text};
 
 impl Print for Case {
     ghost tokens = { grammar.case_of };

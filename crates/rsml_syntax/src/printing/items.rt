@@ -1,12 +1,12 @@
 ghost use Rattle.std.specs.Prelude.{OnOk};
 ghost use Rattle.rsml_syntax.specs.declared.token.Mark.TheVariants as marks;
-ghost use Rattle.rsml_syntax.specs.Grammar as grammar;
-ghost use Rattle.rsml_syntax.specs.Printing.{Writes};
-ghost use Rattle.rsml_syntax.specs.Tokens.{Tokens};
+ghost use Rattle.rsml_syntax.specs.grammar.Grammar as grammar;
+ghost use Rattle.rsml_syntax.specs.helpers.Printing.{Writes};
+ghost use Rattle.rsml_syntax.specs.text.Tokens.{Tokens};
 
 use super::printer::Printer;
-use crate::no_memory::NoMemory;
 use crate::token::Mark;
+use rsml_base::NoMemory;
 
 /// What is written as tokens.
 pub(crate) trait Print {

@@ -1,10 +1,9 @@
 ghost use Rattle.std.specs.Prelude.{◌≤◌, vec_len};
 
 use super::spacing::{Kind, depth_after, write_space};
-use crate::no_memory::NoMemory;
-use crate::text::Text;
 use crate::token::{Mark, Word};
 use itoa::Buffer;
+use rsml_base::{NoMemory, Text};
 use std::alloc::Global;
 
 /// The text of the tokens that are written so far, with the space that their layout has between them.
@@ -19,9 +18,9 @@ pub(crate) struct Printer {
 
 impl Printer {
     ghost use Rattle.std.specs.Prelude.{◌≡◌, ◌+◌, ◌∷◌, ◌++◌, [], Some, None, length, OnOk, IfOk};
-    ghost use Rattle.rsml_syntax.specs.Grammar as grammar;
-    ghost use Rattle.rsml_syntax.specs.TokenKinds.{space_before, token_like};
-    ghost use Rattle.rsml_syntax.specs.Printing.{Writes, with_tokens};
+    ghost use Rattle.rsml_syntax.specs.grammar.Grammar as grammar;
+    ghost use Rattle.rsml_syntax.specs.helpers.TokenKinds.{space_before, token_like};
+    ghost use Rattle.rsml_syntax.specs.helpers.Printing.{Writes, with_tokens};
 
     pub(crate) fn new(alloc: Global) -> Printer
         ensures text { result.text.items ≡ [] }

@@ -1,10 +1,10 @@
 ghost use Rattle.std.specs.Prelude.{◌≡◌, ◌+◌, ◌<◌, ◌≤◌, ◌++◌, vec_len, OnOk};
-ghost use Rattle.rsml_syntax.specs.Layout as layout;
-ghost use Rattle.rsml_syntax.specs.TokenKinds.{space_before, token_like};
+ghost use Rattle.rsml_syntax.specs.grammar.Layout as layout;
+ghost use Rattle.rsml_syntax.specs.helpers.TokenKinds.{space_before, token_like};
 ghost use Rattle.rsml_syntax.specs.declared.token.Token.TheVariants as token;
 
-use crate::no_memory::NoMemory;
 use crate::token::{Mark, Word};
+use rsml_base::NoMemory;
 
 /// A token without the text of its name and without its number: the layout goes by this alone.
 #[derive(Clone, Copy)]

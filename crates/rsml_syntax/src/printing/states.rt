@@ -1,17 +1,15 @@
 ghost use Rattle.std.specs.Prelude.{OnOk};
 ghost use Rattle.rsml_syntax.specs.declared.token.Mark.TheVariants as marks;
 ghost use Rattle.rsml_syntax.specs.declared.token.Word.TheVariants as words;
-ghost use Rattle.rsml_syntax.specs.Grammar as grammar;
-ghost use Rattle.rsml_syntax.specs.Printing.{Writes};
+ghost use Rattle.rsml_syntax.specs.grammar.Grammar as grammar;
+ghost use Rattle.rsml_syntax.specs.helpers.Printing.{Writes};
 
 use super::items::{Print, print_each, print_members, print_separated};
 use super::printer::Printer;
 use super::sums::print_size;
-use crate::list::List;
-use crate::no_memory::NoMemory;
 use crate::syntax::{Body, Bus, Mention, StateDecl, Transition};
-use crate::text::Text;
 use crate::token::{Mark, Word};
+use rsml_base::{List, NoMemory, Text};
 
 impl Print for Bus {
     ghost tokens = { grammar.bus };

@@ -1,13 +1,12 @@
 ghost use Rattle.std.specs.Prelude.{OnOk};
-ghost use Rattle.rsml_syntax.specs.Grammar as grammar;
-ghost use Rattle.rsml_syntax.specs.Printing.{Writes};
+ghost use Rattle.rsml_syntax.specs.grammar.Grammar as grammar;
+ghost use Rattle.rsml_syntax.specs.helpers.Printing.{Writes};
 
 use super::items::{Print, print_each};
 use super::printer::Printer;
-use crate::no_memory::NoMemory;
 use crate::syntax::{Amount, Index, Initial, Mention, Operand, Signed, Sum, Term};
-use crate::text::Text;
 use crate::token::{Mark, Word};
+use rsml_base::{NoMemory, Text};
 
 impl Print for Text {
     ghost tokens = { grammar.name };

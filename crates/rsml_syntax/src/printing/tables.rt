@@ -1,13 +1,12 @@
 ghost use Rattle.std.specs.Prelude.{OnOk};
-ghost use Rattle.rsml_syntax.specs.Grammar as grammar;
-ghost use Rattle.rsml_syntax.specs.Printing.{Writes};
+ghost use Rattle.rsml_syntax.specs.grammar.Grammar as grammar;
+ghost use Rattle.rsml_syntax.specs.helpers.Printing.{Writes};
 
 use super::items::{Print, print_block, print_each, print_separated};
 use super::printer::Printer;
-use crate::no_memory::NoMemory;
 use crate::syntax::{Amount, Cell, Guard, Phrase, Relation, Row, Simple};
-use crate::text::Text;
 use crate::token::{Mark, Word};
+use rsml_base::{NoMemory, Text};
 
 impl Print for Relation {
     ghost tokens = { grammar.relation };

@@ -1,5 +1,5 @@
 use Rattle.std.proofs.Common.{◌≡◌, true, map, take}
-use Rattle.rsml_syntax.specs.Tables.{column}
+use Rattle.rsml_syntax.specs.rules.Tables.{column}
 use Rattle.and_or_tables.specs.Ground.{ground_row}
 use Rattle.and_or_tables.proofs.ground.column_is_true.Given as goal
 

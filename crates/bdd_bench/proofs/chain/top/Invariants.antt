@@ -1,4 +1,4 @@
-use Rattle.std.proofs.Common.{◌≡◌, ◌≤◌, ◌-◌, length}
+use Rattle.std.proofs.Common.{◌≡◌, ◌-◌}
 use Rattle.bdd_core.specs.Diagram.{IsRef}
 use Rattle.bdd_bench.proofs.chain.top.Given as goal
 

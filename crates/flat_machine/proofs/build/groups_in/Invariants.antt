@@ -1,5 +1,5 @@
 use Rattle.std.proofs.Common.{◌≡◌, ◌++◌, drop, flat_map}
-use Rattle.rsml_syntax.specs.Globals.{globals}
+use Rattle.rsml_syntax.specs.rules.Globals.{globals}
 use Rattle.flat_machine.specs.Machine.{groups_at, groups_in}
 use Rattle.flat_machine.proofs.build.groups_in.Given as goal
 

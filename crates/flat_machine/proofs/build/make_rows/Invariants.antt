@@ -1,5 +1,5 @@
 use Rattle.std.proofs.Common.{◌≡◌, take, map}
-use Rattle.rsml_syntax.specs.Globals.{globals}
+use Rattle.rsml_syntax.specs.rules.Globals.{globals}
 use Rattle.flat_machine.specs.Machine.{new_row}
 use Rattle.flat_machine.proofs.build.make_rows.Given as goal
 

@@ -1,5 +1,5 @@
 use Rattle.std.proofs.Common.{◌≡◌, ◌++◌, ◌+◌, drop}
-use Rattle.rsml_syntax.specs.Globals.{globals}
+use Rattle.rsml_syntax.specs.rules.Globals.{globals}
 use Rattle.flat_machine.specs.Machine.{members_from}
 use Rattle.flat_machine.proofs.build.members.Given as goal
 

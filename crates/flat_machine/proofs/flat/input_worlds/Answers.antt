@@ -1,5 +1,5 @@
 use Rattle.std.proofs.Common.{arith}
-use Rattle.rsml_syntax.specs.Globals.{globals}
+use Rattle.rsml_syntax.specs.rules.Globals.{globals}
 use Rattle.flat_machine.specs.Flat.{sizes_of}
 use Rattle.flat_machine.proofs.Products.{next_counted, all_counted}
 use Rattle.flat_machine.proofs.flat.input_worlds.Goals as goal

@@ -1,5 +1,5 @@
 use Rattle.std.proofs.Common.{◌≡◌, ◌^◌, ◌-◌, ◌≤◌, min, drop, flat_map}
-use Rattle.rsml_syntax.specs.Globals.{globals}
+use Rattle.rsml_syntax.specs.rules.Globals.{globals}
 use Rattle.flat_machine.specs.Flat.{product_from, sizes_of}
 use Rattle.flat_machine.proofs.flat.input_worlds.Given as goal
 

@@ -1,5 +1,5 @@
 use Rattle.std.proofs.Common.{◌≡◌, drop}
-use Rattle.rsml_syntax.specs.Globals.{globals, meaning}
+use Rattle.rsml_syntax.specs.rules.Globals.{globals, meaning}
 use Rattle.flat_machine.proofs.lookup.meaning.Given as goal
 
 abbrev pub invariant-loop-decl : goal.invariant-loop-decl

@@ -1,6 +1,6 @@
 use Rattle.std.proofs.Common.{◌≡◌, drop}
 use Rattle.std.specs.List.{position_from}
-use Rattle.rsml_syntax.specs.Names.{same, place_of}
+use Rattle.rsml_syntax.specs.text.Names.{same, place_of}
 use Rattle.flat_machine.proofs.lookup.place_of.Given as goal
 
 abbrev pub invariant-loop-place : goal.invariant-loop-place

@@ -1,4 +1,4 @@
-use Rattle.rsml_syntax.specs.Lexing.{NotUtf8, BadCharacter, NumberTooBig}
+use Rattle.rsml_syntax.specs.text.Lexing.{NotUtf8, BadCharacter, NumberTooBig}
 use Rattle.rsml.proofs.TextLemmas.{lexical_told}
 use Rattle.rsml.proofs.fault_lines.lexical_fault.Goals as goal
 

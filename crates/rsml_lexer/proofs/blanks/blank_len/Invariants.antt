@@ -1,5 +1,5 @@
 use Rattle.std.proofs.Common.{◌≡◌, ◌≤◌, ◌-◌, length, drop}
-use Rattle.rsml_syntax.specs.Scanning.{after_blanks}
+use Rattle.rsml_syntax.specs.helpers.Scanning.{after_blanks}
 use Rattle.rsml_lexer.proofs.blanks.blank_len.Given as goal
 
 abbrev pub invariant-loop-at : goal.invariant-loop-at

@@ -1,8 +1,8 @@
-use Rattle.std.proofs.Common.{◌<◌, ◌≤◌, Some, None, length, take, refl, ap, sym, ◌∙◌, subst, arith}
-use Rattle.rsml_syntax.specs.Characters.{digits_at}
-use Rattle.rsml_syntax.specs.Marks.{mark_at}
-use Rattle.rsml_syntax.specs.Scanning.{named}
-use Rattle.rsml_lexer.specs.Reading.{IsNumber}
+use Rattle.std.proofs.Common.{◌≤◌, Some, None, length, take, refl, ap, sym, ◌∙◌, subst, arith}
+use Rattle.rsml_syntax.specs.text.Characters.{digits_at}
+use Rattle.rsml_syntax.specs.text.Marks.{mark_at}
+use Rattle.rsml_syntax.specs.helpers.Scanning.{named}
+use Rattle.rsml_lexer.specs.Answers.{IsNumber}
 use Rattle.rsml_lexer.proofs.TextLemmas.{name_front, digits_are, small_front, big_front, mark_front, bad_front}
 use Rattle.rsml_lexer.proofs.front.token_at.Goals as goal
 

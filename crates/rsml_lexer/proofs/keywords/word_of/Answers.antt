@@ -1,6 +1,6 @@
 use Rattle.std.proofs.Common.{find, ap, ◌∙◌}
 use Rattle.std.specs.Str.{bytes_eq}
-use Rattle.rsml_syntax.specs.Words.{spelling}
+use Rattle.rsml_syntax.specs.text.Words.{spelling}
 use Rattle.rsml_lexer.proofs.ReadingLemmas.{word_by_first, no_first_word}
 use Rattle.rsml_lexer.proofs.keywords.word_of.Goals as goal
 

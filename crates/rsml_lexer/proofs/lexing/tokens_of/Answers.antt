@@ -1,6 +1,6 @@
-use Rattle.std.proofs.Common.{◌≡◌, ◌-◌, ◌≤◌, [], List, length, drop, refl, sym, ap, ◌∙◌, subst, arith}
+use Rattle.std.proofs.Common.{◌-◌, ◌≤◌, List, length, refl, sym, ap, ◌∙◌, subst}
 use Rattle.rsml_syntax.specs.declared.token.Placed.{Placed}
-use Rattle.rsml_syntax.specs.Scanning.{after_blanks}
+use Rattle.rsml_syntax.specs.helpers.Scanning.{after_blanks}
 use Rattle.rsml_lexer.proofs.LexLemmas.{fails_here}
 use Rattle.rsml_lexer.proofs.ScanSteps.{Reached, reached_within, none_reached, cut_leaves, leaves_cut, more_reached, less_left, no_bytes, all_reached}
 use Rattle.rsml_lexer.proofs.lexing.tokens_of.Goals as goal

@@ -1,4 +1,4 @@
-use Rattle.std.proofs.Common.{ℕ, ◌+◌, sym, ap, ◌∙◌, subst}
+use Rattle.std.proofs.Common.{ℕ, ◌+◌, sym, ◌∙◌, subst}
 use Rattle.std.specs.Str.Iter.{chars_rest}
 use Rattle.rsml_lexer.proofs.TextLemmas.{Passed, more_passed, passed_front, empty_stops, other_stops}
 use Rattle.rsml_lexer.proofs.names.any_len.Goals as goal

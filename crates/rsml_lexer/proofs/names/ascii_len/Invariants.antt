@@ -1,5 +1,6 @@
 use Rattle.std.proofs.Common.{◌≡◌, ◌≤◌, ◌-◌, ◌++◌, length, take, drop}
-use Rattle.rsml_syntax.specs.Scanning.{passing, after_passing}
+use Rattle.rsml_syntax.specs.text.Characters.{passing}
+use Rattle.rsml_syntax.specs.helpers.Scanning.{after_passing}
 use Rattle.rsml_lexer.specs.Bytes.{is_ascii_continuing}
 use Rattle.rsml_lexer.proofs.names.ascii_len.Given as goal
 

@@ -1,7 +1,8 @@
 use Rattle.std.proofs.Common.{◌<◌, length, get_or, take, drop, ap, sym, ◌∙◌, subst, arith}
 use Rattle.std.specs.Str.{encode_utf8_all, chars}
-use Rattle.rsml_syntax.specs.Characters.{is_continuing}
-use Rattle.rsml_syntax.specs.Scanning.{passing, after_passing}
+use Rattle.rsml_syntax.specs.text.Characters.{is_continuing}
+use Rattle.rsml_syntax.specs.text.Characters.{passing}
+use Rattle.rsml_syntax.specs.helpers.Scanning.{after_passing}
 use Rattle.rsml_lexer.specs.Bytes.{is_ascii_continuing}
 use Rattle.rsml_lexer.proofs.TextLemmas.{ascii_cut, name_goes_on, name_stops}
 use Rattle.rsml_lexer.proofs.names.name_len.Goals as goal

@@ -1,5 +1,5 @@
 use Rattle.std.proofs.Common.{◌≡◌, ◌≤◌, ◌-◌, ◌++◌, length, take, drop}
-use Rattle.rsml_syntax.specs.Characters.{digits_at}
+use Rattle.rsml_syntax.specs.text.Characters.{digits_at}
 use Rattle.rsml_lexer.proofs.numbers.digits_len.Given as goal
 
 abbrev pub invariant-loop-len : goal.invariant-loop-len

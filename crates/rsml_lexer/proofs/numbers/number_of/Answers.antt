@@ -1,4 +1,4 @@
-use Rattle.std.proofs.Common.{◌<◌, arith}
+use Rattle.std.proofs.Common.{arith}
 use Rattle.rsml_lexer.proofs.ReadingLemmas.{big_later}
 use Rattle.rsml_lexer.proofs.numbers.number_of.Goals as goal
 

@@ -1,6 +1,6 @@
 use Rattle.std.proofs.Common.{◌≡◌, ◌≤◌, drop}
-use Rattle.rsml_syntax.specs.Characters.{digits_value, digits_value_from}
-use Rattle.rsml_syntax.specs.Tokens.{greatest_number}
+use Rattle.rsml_syntax.specs.text.Characters.{digits_value, digits_value_from}
+use Rattle.rsml_syntax.specs.text.Tokens.{greatest_number}
 use Rattle.rsml_lexer.proofs.numbers.number_of.Given as goal
 
 abbrev pub invariant-loop-digit : goal.invariant-loop-digit

@@ -1,4 +1,4 @@
-use Rattle.rsml_parser.proofs.ReadingLemmas.{tokens_tell}
+use Rattle.rsml_parser.proofs.SpecificationLemmas.{tokens_tell}
 use Rattle.rsml_parser.proofs.laws.grammar_is_unambiguous.Goals as goal
 
 pub returns : goal.returns

@@ -1,4 +1,4 @@
-use Rattle.rsml_parser.proofs.ReadingLemmas.{layout_reads}
+use Rattle.rsml_parser.proofs.SpecificationLemmas.{layout_reads}
 use Rattle.rsml_parser.proofs.laws.layout_reads_again.Goals as goal
 
 pub returns : goal.returns

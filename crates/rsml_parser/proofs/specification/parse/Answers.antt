@@ -1,4 +1,4 @@
-use Rattle.rsml_syntax.specs.Lexing.{bare}
+use Rattle.rsml_syntax.specs.text.Lexing.{bare}
 use Rattle.rsml_parser.proofs.AnswerLemmas.{answers_ok, answers_only, answers_syntax, answers_syntax_only, answers_deep, answers_deep_only}
 use Rattle.rsml_parser.proofs.specification.parse.Goals as goal
 

@@ -1,5 +1,5 @@
 use Rattle.std.proofs.Common.{sym, ◌∙◌, ◌<◌, arith, subst}
-use Rattle.rsml_parser.specs.Reading.{Gives, first, many}
+use Rattle.rsml_parser.specs.Parsers.{Gives, first, many}
 use Rattle.rsml_parser.specs.States.{opens_state, child, body}
 use Rattle.rsml_parser.proofs.Loops.{starts, none_found, stopped, turn, failed, ended, passed_on}
 use Rattle.rsml_parser.proofs.CodeLemmas.{with_room}

@@ -1,6 +1,6 @@
 use Rattle.std.proofs.Common.{◌≡◌, ◌+◌, ◌-◌, ◌*◌}
 use Rattle.rsml_parser.proofs.Loops.{going}
-use Rattle.rsml_parser.specs.Reading.{first, many}
+use Rattle.rsml_parser.specs.Parsers.{first, many}
 use Rattle.rsml_parser.specs.States.{opens_state, child, body}
 use Rattle.rsml_parser.proofs.states.+body.Given as goal
 

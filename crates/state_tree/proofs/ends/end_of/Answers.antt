@@ -1,6 +1,6 @@
 use Rattle.std.proofs.Common.{◌≤◌, length, List, sym, ◌∙◌, subst, arith}
 use Rattle.rsml_meaning.specs.Instances.{State}
-use Rattle.state_nodes.specs.Numbers.{paths}
+use Rattle.state_tree.specs.nodes.Numbers.{paths}
 use Rattle.state_tree.proofs.Walks.{few_states}
 use Rattle.state_tree.proofs.Spans.{finds_end, ends_last, one_more_in}
 use Rattle.state_tree.proofs.ends.end_of.Goals as goal

@@ -1,6 +1,6 @@
 use Rattle.std.proofs.Common.{◌≡◌, ℕ, ◌<◌, true, Some, slice_get}
 use Rattle.rsml_meaning.specs.Words.{Path, is_prefix}
-use Rattle.state_nodes.specs.Numbers.{paths}
+use Rattle.state_tree.specs.nodes.Numbers.{paths}
 use Rattle.state_tree.proofs.ends.end_of.Given as goal
 
 abbrev pub invariant-loop-end : goal.invariant-loop-end

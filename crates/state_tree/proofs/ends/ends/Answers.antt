@@ -1,5 +1,5 @@
 use Rattle.std.proofs.Common.{◌+◌, length, ap, ◌∙◌, length-append, ◌∷◌, []}
-use Rattle.state_nodes.specs.Numbers.{paths}
+use Rattle.state_tree.specs.nodes.Numbers.{paths}
 use Rattle.state_tree.proofs.Spans.{ends_push}
 use Rattle.state_tree.proofs.ends.ends.Goals as goal
 

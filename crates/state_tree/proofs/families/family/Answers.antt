@@ -1,12 +1,12 @@
 use Rattle.std.proofs.Common.{◌≤◌, ◌<◌, length, List, sym, subst, arith}
 use Rattle.std.proofs.lemmas.List.{length-map}
 use Rattle.rsml_syntax.specs.declared.syntax.StateDecl.{StateDecl}
-use Rattle.rsml_syntax.specs.Parts.{children_of}
+use Rattle.rsml_syntax.specs.grammar.Parts.{children_of}
 use Rattle.rsml_meaning.specs.Words.{Each}
 use Rattle.rsml_meaning.specs.Instances.{State}
-use Rattle.state_nodes.specs.Numbers.{paths}
+use Rattle.state_tree.specs.nodes.Numbers.{paths}
 use Rattle.state_tree.specs.Tables.{HasChildNamed}
-use Rattle.state_tree.proofs.Kin.{names, one_state_in, index_there, family_of}
+use Rattle.state_tree.proofs.Kin.{names, one_state_in, index_there, family_of, no_family}
 use Rattle.state_tree.proofs.families.family.Goals as goal
 
 pub child_place-default-requires : goal.child_place-default-requires
@@ -32,3 +32,6 @@ returns-in_ok-children-in-Some-default_of c =
     let r = one_state_in c.args.spec.now c.args.nodes.now c.args.node c.in-Some.body.now c.in-Some-default_of.first.now c.requires.checked c.requires.nodes c.in-Some.ensures c.in-Some-default_of.ensures in
     family_of c.args.spec.now c.args.nodes.now c.args.node c.in-Some.body.now c.in-Some-default_of.first.now c.children_of-children.result.now c.child_place-default.result c.in_ok-children-in-Some-default_of.children.items
     c.requires.nodes c.children_of-children.ensures r c.child_place-default.ensures c.in_ok-children-in-Some-default_of.ensures
+
+pub returns-in-None : goal.returns-in-None
+returns-in-None c = no_family c.args.spec.now c.args.nodes.now c.args.node c.in-Some.body.now c.requires.nodes c.in-Some.ensures c.in-None.ensures

@@ -1,5 +1,5 @@
 use Rattle.std.proofs.Common.{arith}
-use Rattle.state_nodes.specs.Numbers.{paths}
+use Rattle.state_tree.specs.nodes.Numbers.{paths}
 use Rattle.state_tree.proofs.Spans.{child_between, never_none}
 use Rattle.state_tree.proofs.family.child.Goals as goal
 

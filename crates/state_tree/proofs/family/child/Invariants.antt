@@ -1,5 +1,5 @@
 use Rattle.rsml_meaning.specs.Words.{at, child_path}
-use Rattle.state_nodes.specs.Numbers.{paths}
+use Rattle.state_tree.specs.nodes.Numbers.{paths}
 use Rattle.state_tree.proofs.Spans.{NoneIs}
 use Rattle.state_tree.proofs.family.child.Given as goal
 

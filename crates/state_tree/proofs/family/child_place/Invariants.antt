@@ -1,7 +1,7 @@
 use Rattle.std.proofs.Common.{◌≡◌, map, drop}
 use Rattle.std.specs.List.{position_from}
 use Rattle.rsml_syntax.specs.declared.syntax.StateDecl.{StateDecl}
-use Rattle.rsml_syntax.specs.Names.{same, place_of}
+use Rattle.rsml_syntax.specs.text.Names.{same, place_of}
 use Rattle.state_tree.proofs.family.child_place.Given as goal
 
 abbrev pub invariant-loop-place : goal.invariant-loop-place

@@ -1,5 +1,5 @@
 use Rattle.rsml_syntax.specs.declared.syntax.StateDecl.{StateDecl}
-use Rattle.state_nodes.specs.Numbers.{paths}
+use Rattle.state_tree.specs.nodes.Numbers.{paths}
 use Rattle.state_tree.specs.Tables.{HasChildNamed, IsChildNamed}
 use Rattle.state_tree.proofs.Kin.{each_at, named_more}
 use Rattle.state_tree.proofs.family.children_named.Goals as goal

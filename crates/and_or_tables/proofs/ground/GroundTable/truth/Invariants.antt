@@ -1,6 +1,6 @@
 use Rattle.std.proofs.Common.{◌≡◌, false, map}
 use Rattle.std.specs.List.{list_any}
-use Rattle.rsml_syntax.specs.Tables.{below, column}
+use Rattle.rsml_syntax.specs.rules.Tables.{below, column}
 use Rattle.and_or_tables.specs.Ground.{ground_row}
 use Rattle.and_or_tables.proofs.ground.GroundTable.truth.Given as goal
 

@@ -1,5 +1,5 @@
 use Rattle.std.proofs.Common.{◌≡◌, map}
-use Rattle.rsml_syntax.specs.Tables.{below}
+use Rattle.rsml_syntax.specs.rules.Tables.{below}
 use Rattle.and_or_tables.specs.Cells.{care_word, want_word}
 use Rattle.and_or_tables.specs.Shape.{cells_of}
 use Rattle.and_or_tables.proofs.masks.MaskTable.build.Given as goal

@@ -1,7 +1,7 @@
 -- The last case is a lemma on the four diagrams that the calls pass through.
-use Rattle.std.proofs.Common.{◌≡◌, ◌≤◌, sym, subst, arith}
+use Rattle.std.proofs.Common.{sym, subst, arith}
 use Rattle.bdd_core.specs.Calls.{Keeps, AddsConjunctions}
-use Rattle.bdd_core.specs.Steps.{IsChoice, least_level}
+use Rattle.bdd_core.specs.Steps.{IsChoice}
 use Rattle.bdd_core.proofs.StepLemmas.{keeps_trans}
 use Rattle.bdd_core.proofs.ChoiceLemmas.{choice-node}
 use Rattle.bdd_core.proofs.GrowthLemmas.{adds-low, adds-high, adds-node}

@@ -1,9 +1,7 @@
 -- The simple cases are lemmas on one diagram, and the last a lemma on the four that the calls pass through.
 use Rattle.std.proofs.Common.{◌≡◌, sym, subst, arith, if◌then◌else◌}
 use Rattle.bdd_core.specs.Diagram.{level_of}
-use Rattle.bdd_core.specs.Calls.{Keeps}
 use Rattle.bdd_core.specs.Steps.{IsCut}
-use Rattle.bdd_core.proofs.StepLemmas.{keeps_trans}
 use Rattle.bdd_core.proofs.CutLemmas.{cut-constant, cut-itself, cut-child, cut-node}
 use Rattle.bdd_core.proofs.arena.Arena.+cut.Goals as goal
 use Rattle.bdd_core.proofs.arena.Arena.+cut.Goals.{then-f-lt2-via-then-f-lt2, then-f-lt2-via-else-f-lt2+then-level-top}

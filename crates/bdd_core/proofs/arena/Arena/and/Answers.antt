@@ -1,4 +1,4 @@
-use Rattle.std.proofs.Common.{◌≡◌, refl, subst}
+use Rattle.std.proofs.Common.{refl, subst}
 use Rattle.bdd_core.specs.Calls.{AddsConjunctions}
 use Rattle.bdd_core.proofs.ChoiceLemmas.{choice-at}
 use Rattle.bdd_core.proofs.CallLemmas.{represents-and}

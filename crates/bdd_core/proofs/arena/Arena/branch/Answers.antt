@@ -1,4 +1,4 @@
-use Rattle.std.proofs.Common.{◌≡◌, ◌∙◌, sym, subst, refl, arith, true≢false, slice_get, Some}
+use Rattle.std.proofs.Common.{◌≡◌, subst, refl, arith, true≢false, slice_get, Some}
 use Rattle.bdd_core.specs.Diagram.{Diagram, IsReduced}
 use Rattle.bdd_core.proofs.CallLemmas.{constant-small, no_constant-node, branch-at}
 use Rattle.bdd_core.proofs.arena.Arena.branch.Goals as goal

@@ -1,6 +1,5 @@
-use Rattle.std.proofs.Common.{◌≡◌, ◌∙◌, ap, sym, subst, arith, ℕ, Bool}
+use Rattle.std.proofs.Common.{◌∙◌, ap, sym, subst, arith}
 use Rattle.bdd_core.specs.Diagram.{IsReduced, meaning}
-use Rattle.bdd_core.specs.Calls.{Represents}
 use Rattle.bdd_core.proofs.MeaningLemmas.{meaning-false, meaning-true}
 use Rattle.bdd_core.proofs.arena.Arena.constant.Goals as goal
 use Rattle.bdd_core.proofs.arena.Arena.constant.Goals.{then-value, else-value}

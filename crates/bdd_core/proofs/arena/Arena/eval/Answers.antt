@@ -1,5 +1,5 @@
 -- Each round goes down one node, which keeps the meaning.
-use Rattle.std.proofs.Common.{◌≡◌, ℕ, Bool, sym, subst, ap, ◌∙◌, arith, if◌then◌else◌, slice_get, Some, ◌<◌}
+use Rattle.std.proofs.Common.{◌≡◌, ℕ, Bool, sym, subst, ap, ◌∙◌, arith, if◌then◌else◌, slice_get, Some}
 use Rattle.bdd_core.specs.declared.node.Node.{Node}
 use Rattle.bdd_core.specs.Diagram.{Diagram, IsReduced, meaning}
 use Rattle.bdd_core.specs.Calls.{values_of}

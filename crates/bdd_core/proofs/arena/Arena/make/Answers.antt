@@ -1,5 +1,5 @@
 -- The new node fits, so the arena holds with it, and its place means the node.
-use Rattle.std.proofs.Common.{◌∙◌, sym, ◌≡◌, subst, ap, ◌<◌, ◌≤◌, length, slice_get, Some, arith, ◌⊎◌, ◌++◌, ◌∷◌, [], inl, inr}
+use Rattle.std.proofs.Common.{◌∙◌, sym, ◌≡◌, subst, ap, ◌<◌, ◌≤◌, length, slice_get, Some, arith, inl, inr}
 use Rattle.bdd_core.specs.declared.node.Node.{Node}
 use Rattle.bdd_core.specs.Diagram.{Diagram, IsRef, level_of}
 use Rattle.bdd_core.specs.Calls.{Keeps}

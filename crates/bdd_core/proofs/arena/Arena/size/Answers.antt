@@ -2,7 +2,7 @@
 use Rattle.std.proofs.Common.{◌≡◌, ◌-◌, ◌∙◌, suc, subst, sym, get_or, false, true, length, length-set, arith, ℕ, Bool, List, ◌<◌, set, ◌+◌, ap, Some}
 use Rattle.std.proofs.lemmas.List.{get_or_default}
 use Rattle.std.proofs.lemmas.Option.{slice_get-get_or}
-use Rattle.bdd_core.specs.Diagram.{Diagram, IsReduced}
+use Rattle.bdd_core.specs.Diagram.{IsReduced}
 use Rattle.bdd_core.specs.Sweep.{Swept}
 use Rattle.bdd_core.proofs.SweepLemmas.{swept-start, swept-skip, swept-count}
 use Rattle.bdd_core.proofs.arena.Arena.size.Goals as goal

@@ -1,4 +1,4 @@
-use Rattle.std.proofs.Common.{◌≡◌, inl, inr}
+use Rattle.std.proofs.Common.{inl, inr}
 use Rattle.bdd_core.proofs.ChoiceLemmas.{IsTrueWith, IsFalseWith, choice-true, choice-false, choice-same, choice-itself, true-constant, true-itself, false-constant, false-itself}
 use Rattle.bdd_core.proofs.arena.choose.simple.Goals as goal
 

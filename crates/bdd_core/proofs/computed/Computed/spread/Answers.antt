@@ -1,4 +1,4 @@
-use Rattle.std.proofs.Common.{◌≡◌, ◌<◌, ◌∙◌, sym, arith, length}
+use Rattle.std.proofs.Common.{◌<◌, ◌∙◌, sym, arith, length}
 use Rattle.bdd_core.proofs.KeptLemmas.{gains-again}
 use Rattle.bdd_core.proofs.computed.Computed.spread.Goals as goal
 

@@ -1,4 +1,4 @@
-use Rattle.std.proofs.Common.{◌≡◌, ◌≤◌, length}
+use Rattle.std.proofs.Common.{◌≡◌, length}
 use Rattle.bdd_core.specs.Steps.{GainsOnly, blank}
 use Rattle.bdd_core.proofs.computed.Computed.spread.Given as goal
 

@@ -1,6 +1,6 @@
 use Rattle.std.proofs.Common.{ℕ, Option, List, slice_get, sym, ap, ◌∙◌, subst}
 use Rattle.rsml_syntax.specs.declared.syntax.StateDecl.{StateDecl}
-use Rattle.rsml_syntax.specs.Parts.{children_of}
+use Rattle.rsml_syntax.specs.grammar.Parts.{children_of}
 use Rattle.rsml_names.specs.Kin.{HoldsSome}
 use Rattle.rsml_names.proofs.KinLemmas.{held, below_at}
 use Rattle.rsml_names.proofs.families.Families.below.Goals as goal

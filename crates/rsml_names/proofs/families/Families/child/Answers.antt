@@ -1,6 +1,6 @@
 use Rattle.std.proofs.Common.{Option, List, sym, subst}
 use Rattle.rsml_syntax.specs.declared.syntax.StateDecl.{StateDecl}
-use Rattle.rsml_syntax.specs.Uses.{child_named}
+use Rattle.rsml_syntax.specs.rules.Uses.{child_named}
 use Rattle.rsml_names.specs.Kin.{Child, IsChild, child_of}
 use Rattle.rsml_names.proofs.KinLemmas.{held, is_child}
 use Rattle.rsml_names.proofs.families.Families.child.Goals as goal

@@ -2,8 +2,8 @@ use Rattle.std.proofs.Common.{◌≡◌, ℕ, List, Option, Some, None, slice_ge
 use Rattle.std.specs.List.{HoldsAt}
 use Rattle.std.proofs.lemmas.Option.{slice_get_past, slice_get-get_or}
 use Rattle.std.specs.Option.{option_map, option_and_then, option_copied, MatchOption}
-use Rattle.rsml_syntax.specs.Names.{Name, same, place_of}
-use Rattle.rsml_syntax.specs.Scopes.{Variable}
+use Rattle.rsml_syntax.specs.text.Names.{Name, same, place_of}
+use Rattle.rsml_syntax.specs.rules.Scopes.{Variable}
 use Rattle.rsml_names.proofs.BoundLemmas.{first_passing}
 use Rattle.rsml_names.specs.Bound.{joined}
 use Rattle.rsml_names.proofs.variables.Variables.first.Goals as goal

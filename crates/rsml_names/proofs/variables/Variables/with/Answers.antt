@@ -3,8 +3,8 @@ use Rattle.std.specs.Prelude.{flat_map}
 use Rattle.rsml_syntax.specs.declared.syntax.Case.{Case}
 use Rattle.rsml_syntax.specs.declared.syntax.SendCase.{SendCase}
 use Rattle.rsml_syntax.specs.declared.syntax.Decl.{Decl}
-use Rattle.rsml_syntax.specs.Scopes.{Variable, variable_at}
-use Rattle.rsml_syntax.specs.Written.{variables_in}
+use Rattle.rsml_syntax.specs.rules.Scopes.{Variable, variable_at}
+use Rattle.rsml_syntax.specs.grammar.Written.{variables_in}
 use Rattle.rsml_names.specs.Bound.{of_guard}
 use Rattle.rsml_names.proofs.BoundLemmas.{of_cases}
 use Rattle.rsml_names.proofs.variables.Variables.with.Goals as goal

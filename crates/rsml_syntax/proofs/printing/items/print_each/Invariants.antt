@@ -1,7 +1,7 @@
 use Rattle.std.proofs.Common.{◌≡◌, drop}
-use Rattle.rsml_syntax.specs.Grammar.{each}
-use Rattle.rsml_syntax.specs.Printing.{with_tokens}
-use Rattle.rsml_syntax.specs.Tokens.{Tokens}
+use Rattle.rsml_syntax.specs.grammar.Grammar.{each}
+use Rattle.rsml_syntax.specs.helpers.Printing.{with_tokens}
+use Rattle.rsml_syntax.specs.text.Tokens.{Tokens}
 use Rattle.rsml_syntax.proofs.printing.items.print_each.Given as goal
 
 abbrev pub invariant-loop-item : goal.invariant-loop-item

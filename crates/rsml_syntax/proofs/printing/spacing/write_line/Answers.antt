@@ -1,4 +1,4 @@
-use Rattle.std.proofs.Common.{◌∷◌, [], ◌++◌, ap, ◌∙◌, arith}
+use Rattle.std.proofs.Common.{◌∙◌, arith}
 use Rattle.rsml_syntax.proofs.PrintLemmas.{two_more}
 use Rattle.rsml_syntax.proofs.printing.spacing.write_line.Goals as goal
 

@@ -1,9 +1,9 @@
 use Rattle.std.proofs.Common.{◌&&◌, [], ◌∷◌, length, sym, ap, ◌∙◌, subst, arith, length-append}
 use Rattle.rsml_syntax.specs.declared.syntax.Spec.{Spec}
-use Rattle.rsml_syntax.specs.Checked.{IsChecked}
+use Rattle.rsml_syntax.specs.limits.Checked.{IsChecked}
 use Rattle.rsml_meaning.specs.Active.{active}
 use Rattle.rsml_meaning.specs.Instances.{states}
-use Rattle.state_nodes.specs.Numbers.{paths, path_around}
+use Rattle.state_tree.specs.nodes.Numbers.{paths, path_around}
 use Rattle.state_tree.specs.Numbers.{path_of}
 use Rattle.state_tree.specs.Tables.{AreFamilies}
 use Rattle.state_tree.proofs.Walks.{step_up, walked, top_active, told_none, and_true, and_false}

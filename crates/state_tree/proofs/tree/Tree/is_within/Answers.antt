@@ -1,7 +1,7 @@
 use Rattle.std.proofs.Common.{subst}
 use Rattle.rsml_syntax.specs.declared.syntax.Spec.{Spec}
 use Rattle.rsml_meaning.specs.Instances.{states}
-use Rattle.state_nodes.specs.Numbers.{paths}
+use Rattle.state_tree.specs.nodes.Numbers.{paths}
 use Rattle.state_tree.specs.Tables.{AreEnds}
 use Rattle.state_tree.proofs.Walks.{within_so, within_not, end_at, end_there}
 use Rattle.state_tree.proofs.tree.Tree.is_within.Goals as goal

@@ -1,10 +1,10 @@
 use Rattle.std.proofs.Common.{subst}
 use Rattle.rsml_syntax.specs.declared.syntax.Spec.{Spec}
-use Rattle.rsml_syntax.specs.Checked.{IsChecked}
+use Rattle.rsml_syntax.specs.limits.Checked.{IsChecked}
 use Rattle.state_tree.specs.Tables.{AreFamilies}
 use Rattle.state_tree.proofs.Walks.{choice_within, has_child, leads_child, leads_none, told_none}
 use Rattle.rsml_meaning.specs.Instances.{components, states}
-use Rattle.state_nodes.specs.Numbers.{component_at}
+use Rattle.state_tree.specs.nodes.Numbers.{component_at}
 use Rattle.state_tree.proofs.tree.Tree.leads.Goals as goal
 
 pub bounds-choices-component : goal.bounds-choices-component

@@ -1,7 +1,6 @@
 use Rattle.std.proofs.Common.{length, ◌+◌, ◌≤◌, ℕ, vec_len, ap, sym, ◌∙◌, subst}
-use Rattle.rsml_syntax.specs.declared.token.Mark.TheVariants as marks
 use Rattle.rsml_syntax.specs.declared.token.Token.TheVariants as token
-use Rattle.rsml_syntax.specs.Layout.{open_after}
+use Rattle.rsml_syntax.specs.grammar.Layout.{open_after}
 use Rattle.rsml_syntax.proofs.PrintLemmas.{wrote, mark_within}
 use Rattle.rsml_syntax.proofs.printing.printer.Printer.mark.Goals as goal
 

@@ -1,0 +1,72 @@
+use bdd_core::{Arena, Marks};
+use rsml_base::NoMemory;
+use std::alloc::Global;
+use std::test::Fail;
+
+/// Of functions that are equal, whether their handles are.
+fn equal_handles(alloc: Global) -> Result<[bool; 5], NoMemory> {
+    let mut arena = Arena::new(alloc, 2)?;
+    let x = arena.var(0)?;
+    let y = arena.var(1)?;
+    let again = arena.var(0)?;
+    let not_x = arena.not(x)?;
+    let never = arena.and(x, not_x)?;
+    let always = arena.or(x, not_x)?;
+    let both = arena.and(x, y)?;
+    let none = arena.constant(false);
+    let chosen = arena.ite(x, y, none)?;
+    let same = arena.ite(x, y, y)?;
+    Ok([
+        again == x,
+        arena.is_false(never),
+        arena.is_true(always),
+        chosen == both,
+        same == y,
+    ])
+}
+
+#[test]
+fn equal_functions_have_equal_handles(rt: HostRuntime) -> Result<(), Fail> {
+    assert_eq!(rt; equal_handles(rt.alloc()), Ok([true; 5]));
+    Ok(())
+}
+
+/// Whether `x and y` is true where only x is, and whether it is y where x is true.
+fn read_conjunction(alloc: Global) -> Result<[bool; 2], NoMemory> {
+    let mut arena = Arena::new(alloc, 2)?;
+    let x = arena.var(0)?;
+    let y = arena.var(1)?;
+    let both = arena.and(x, y)?;
+    let with_x = arena.restrict(both, 0, true)?;
+    Ok([arena.eval(both, &[true, false]), with_x == y])
+}
+
+#[test]
+fn reads_a_conjunction(rt: HostRuntime) -> Result<(), Fail> {
+    assert_eq!(rt; read_conjunction(rt.alloc()), Ok([false, true]));
+    Ok(())
+}
+
+/// The sizes of `x and y`, of `(x and y) or z`, and of `x differs from y`.
+fn sizes(alloc: Global) -> Result<[usize; 3], NoMemory> {
+    let mut arena = Arena::new(alloc, 3)?;
+    let x = arena.var(0)?;
+    let y = arena.var(1)?;
+    let z = arena.var(2)?;
+    let both = arena.and(x, y)?;
+    let any = arena.or(both, z)?;
+    let not_y = arena.not(y)?;
+    let odd = arena.ite(x, not_y, y)?;
+    let mut marks = Marks::new(alloc, &arena)?;
+    Ok([
+        arena.size(both, &mut marks),
+        arena.size(any, &mut marks),
+        arena.size(odd, &mut marks),
+    ])
+}
+
+#[test]
+fn sizes_count_both_constants(rt: HostRuntime) -> Result<(), Fail> {
+    assert_eq!(rt; sizes(rt.alloc()), Ok([4, 5, 5]));
+    Ok(())
+}

@@ -1,7 +1,0 @@
-use Rattle.std.proofs.Common.{◌≡◌, ◌*◌, ◌&&◌, not}
-use Rattle.rsml_syntax.specs.Limits.{shown}
-use Rattle.line_counts.specs.Bits.{bit, one, adds_below}
-use Rattle.line_counts.proofs.bits.Bits.count_without.Given as goal
-
-abbrev pub invariant-loop-place : goal.invariant-loop-place
-invariant-loop-place l = l.sum ≡ shown (adds_below (λ q. one (bit l.self q && not (bit l.other q))) (64 * l.place))

@@ -1,9 +1,0 @@
-use Rattle.std.proofs.Common.{◌≡◌, ℕ, nat_eq, map, take}
-use Rattle.line_counts.specs.Grouped.{places_of}
-use Rattle.line_counts.specs.Lines.{list_at}
-use Rattle.line_counts.specs.Sets.{is_among}
-use Rattle.line_counts.proofs.inverse.lines_of.Given as goal
-
-abbrev pub invariant-loop-place : goal.invariant-loop-place
-invariant-loop-place l =
-    (number p : ℕ) → is_among nat_eq (places_of l.lines.items number) p ≡ is_among nat_eq (list_at (map (λ v. v.items) (take l.place l.lists)) p) number

@@ -1,0 +1,7 @@
+use Rattle.rsml.proofs.OneOutput.{one_output}
+use Rattle.rsml.proofs.laws.an_output_is_one.Goals as goal
+
+pub returns : goal.returns
+returns c =
+    one_output c.at_most_one_first_fault.ensures c.at_most_one_token_list.ensures c.never_both.ensures c.tokens_have_one_answer.ensures
+    c.a_report_is_one_text.ensures.report

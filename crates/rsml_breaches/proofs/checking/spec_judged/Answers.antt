@@ -1,7 +1,0 @@
-use Rattle.rsml_breaches.proofs.WholeLemmas.{all_noted}
-use Rattle.rsml_breaches.proofs.checking.spec_judged.Goals as goal
-
-pub returns : goal.returns
-returns c =
-    all_noted c.args.spec.now c.args.setting.now.whole c.as_slice.result.now c.top_judged.result c.args.worst.now c.each_declaration.new.worst c.top_judged.new.worst
-    c.requires c.as_slice.ensures c.in_ok-each_declaration.ensures c.top_judged.ensures

@@ -1,6 +1,0 @@
-use Rattle.rsml_syntax.specs.Declarations as declarations
-use Rattle.rsml_breaches.proofs.Noting.{noted_step}
-use Rattle.rsml_breaches.proofs.contents.each_case.Goals as goal
-
-pub loop-case-preserved : goal.loop-case-preserved
-loop-case-preserved c = noted_step (declarations.case_used c.args.setting.now.whole c.args.scope.now) _ _ _ _ _ _ c.loop-case-test.true c.case-item.is c.case_used.ensures c.loop-case.invariant

@@ -1,7 +1,0 @@
-use Rattle.std.proofs.Common.{◌≡◌, drop, []}
-use Rattle.rsml_syntax.specs.Breaches.{noted}
-use Rattle.rsml_syntax.specs.Declarations as declarations
-use Rattle.rsml_breaches.proofs.contents.repeats.Given as goal
-
-abbrev pub invariant-loop-name : goal.invariant-loop-name
-invariant-loop-name l = noted l.worst (declarations.repeats l.rule l.earlier (drop l.name-index l.names)) ≡ noted l.fn.worst (declarations.repeats l.rule [] l.names)

@@ -1,5 +1,0 @@
-use Rattle.std.proofs.Common.{length}
-use Rattle.rsml_breaches.proofs.paths.+steps_used.Given as goal
-
-abbrev pub decreases-steps_used : goal.decreases-steps_used
-decreases-steps_used l = length l.path.now

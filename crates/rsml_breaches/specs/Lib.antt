@@ -1,4 +1,0 @@
-pub mod Initials
-pub mod Keys
-pub mod Settings
-pub mod Walks

@@ -1,7 +1,0 @@
-use Rattle.std.proofs.Common.{◌≡◌, map, take}
-use Rattle.rsml_syntax.specs.Comparisons.{ground_sum}
-use Rattle.rsml_comparisons.specs.Shown.{shown_sum}
-use Rattle.rsml_comparisons.proofs.cases.case_sums.Given as goal
-
-abbrev pub invariant-loop-case : goal.invariant-loop-case
-invariant-loop-case l = map (λ terms. shown_sum terms.items) l.values.items ≡ map (λ c. ground_sum l.globals l.reading c.value) (take l.case-index l.case-items)

@@ -1,7 +1,0 @@
-use Rattle.std.proofs.Common.{◌≡◌, take}
-use Rattle.rsml_syntax.specs.Limits.{adds, shown}
-use Rattle.rsml_syntax.specs.Limits.{ground_rows}
-use Rattle.rsml_counts.proofs.rows.table_rows.Given as goal
-
-abbrev pub invariant-loop-row : goal.invariant-loop-row
-invariant-loop-row l = l.count ≡ shown (adds (ground_rows l.globals) (take l.row-index l.rows))

@@ -1,0 +1,4 @@
+pub mod counts
+pub mod comparisons
+pub mod keys
+pub mod thresholds

@@ -1,0 +1,11 @@
+//! The limits L1 to L7: what a specification counts, and the lowest limit that it exceeds.
+#![tactic(auto)]
+
+mod comparisons;
+mod counts;
+mod keys;
+mod over;
+mod thresholds;
+
+pub use counts::previous_names;
+pub use over::{Over, lowest_over};

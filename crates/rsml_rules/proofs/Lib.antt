@@ -1,0 +1,11 @@
+pub mod DeclarationLemmas
+pub mod Earlier
+pub mod FirstLemmas
+pub mod Kinship
+pub mod Lasts
+pub mod Noting
+pub mod OwnerLemmas
+pub mod Raising
+pub mod Sources
+pub mod Walking
+pub mod SpecLemmas

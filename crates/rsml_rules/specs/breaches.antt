@@ -1,0 +1,5 @@
+pub mod Around
+pub mod Noting
+pub mod Owned
+pub mod Settings
+pub mod Walks

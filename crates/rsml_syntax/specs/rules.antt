@@ -1,0 +1,11 @@
+pub mod Breaches
+pub mod Declarations
+pub mod Globals
+pub mod Kinds
+pub mod Owners
+pub mod Relations
+pub mod Rules
+pub mod Scopes
+pub mod States
+pub mod Tables
+pub mod Uses

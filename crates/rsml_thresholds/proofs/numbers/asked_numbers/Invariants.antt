@@ -1,7 +1,0 @@
-use Rattle.std.proofs.Common.{◌≡◌, map, take}
-use Rattle.rsml_thresholds.specs.Edges as spec
-use Rattle.rsml_thresholds.specs.Shown.{shown_right}
-use Rattle.rsml_thresholds.proofs.numbers.asked_numbers.Given as goal
-
-abbrev pub invariant-loop-right : goal.invariant-loop-right
-invariant-loop-right l = l.numbers.items ≡ spec.asked_numbers l.edge (map shown_right (take l.right-index l.rights))

@@ -1,7 +1,0 @@
-use Rattle.std.proofs.Common.{◌≡◌, map, take}
-use Rattle.rsml_comparisons.specs.Shown.{shown_sum}
-use Rattle.rsml_thresholds.specs.Edges as spec
-use Rattle.rsml_thresholds.proofs.numbers.edge_numbers.Given as goal
-
-abbrev pub invariant-loop-terms : goal.invariant-loop-terms
-invariant-loop-terms l = l.numbers.items ≡ spec.edge_numbers l.edge (map (λ v. shown_sum v.items) (take l.terms-index l.sums))

@@ -1,5 +1,0 @@
-use Rattle.state_arrays.proofs.RangeLemmas.{range_count}
-use Rattle.state_arrays.proofs.indices.Indices.count.Goals as goal
-
-pub returns : goal.returns
-returns c = range_count c.args.self.low c.args.self.high c.from.result c.args.self.some c.from.ensures

@@ -1,0 +1,7 @@
+//! Texts, with their tokens or their first faults.
+#![tactic(auto)]
+
+#[cfg(test)]
+mod lexer;
+#[cfg(test)]
+mod parser;
