@@ -21,6 +21,13 @@ pub rows_with-parts : (rows : List GroundRow) → rows_with (map (λ row. row.ph
 rows_with-parts [] = refl
 rows_with-parts (row ∷ rows) = ap (λ rs. row ∷ rs) (rows_with-parts rows)
 
+-- the phrases of the rows of a table that is put together
+pub phrases_of_rows : (phrases : List ℕ) (rows : List (List Cell)) → length phrases ≡ length rows → map (λ row. row.phrase) (rows_with phrases rows) ≡ phrases
+phrases_of_rows [] [] paired = refl
+phrases_of_rows (p ∷ ps) (r ∷ rs) paired = ap (λ (ns : List ℕ). p ∷ ns) (phrases_of_rows ps rs (omega (arith, paired)))
+phrases_of_rows [] (r ∷ rs) paired = refl
+phrases_of_rows (p ∷ ps) [] paired = absurd (omega (arith, paired))
+
 -- the phrases of the rows are below the count
 pub phrases_below : (phrases : List ℕ) (rows : List (List Cell)) (count : ℕ) → length phrases ≡ length rows
     → All (λ row. row.phrase < count) (rows_with phrases rows)

@@ -40,6 +40,16 @@ impl FastTable {
         Ok(FastTable { phrases, masks })
     }
 
+    /// The numbers of the phrases of the rows, in order.
+    #[tactic(auto, using(crate::proofs::FastLemmas::phrases_of_rows))]
+    pub fn phrases(&self) -> &[u32]
+        ensures { result.now ≡ map (λ row. row.phrase) self.now.rows }
+    {
+        // To look at a field makes the invariant of the table known to the proof.
+        let _ = &self.masks;
+        self.phrases.as_slice()
+    }
+
     /// Whether some column is true: what `GroundTable::truth` answers of the table. It takes no
     /// memory.
     pub fn truth(&self, truths: &Truths) -> bool

@@ -6,7 +6,7 @@ use Rattle.one_run.proofs.Sends.{one_beside_case}
 use Rattle.one_run.proofs.Steps.{events_have_lengths}
 use Rattle.one_run.proofs.Values.{one_true_case}
 use Rattle.one_run.proofs.Runs.{runs_end_in_time, event_files_have_one_run}
-use Rattle.one_run.proofs.rules.Scoped.{rules_give_scopes}
+use Rattle.rsml_scopes.proofs.rules.Scoped.{rules_give_scopes}
 
 pub certified_is_deterministic : CertifiedIsDeterministic
 certified_is_deterministic s kept c =

@@ -16,8 +16,8 @@ use Rattle.rsml_meaning.specs.Active.{child_place}
 use Rattle.rsml_meaning.specs.EventLines.{Message}
 use Rattle.rsml_meaning.specs.Runs.{first_world, number_for, told, latched_cell, latched}
 use Rattle.rsml_meaning.proofs.Same.{instance_same, instance_itself}
-use Rattle.one_run.specs.Scoped.{WellScoped}
-use Rattle.one_run.proofs.Lists.{both, each_append, each_flat_map, each_map, each_more, each_filter, each_one, each_ones, one_front}
+use Rattle.rsml_scopes.specs.Scoped.{WellScoped}
+use Rattle.rsml_scopes.proofs.Lists.{both, each_append, each_flat_map, each_map, each_more, each_filter, each_one, each_ones, one_front}
 use Rattle.one_run.proofs.Worlds.{has_children, is_child, choices_are, cells_are}
 use Rattle.one_run.proofs.Messages.{IsTold, IsFit}
 

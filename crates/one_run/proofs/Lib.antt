@@ -1,10 +1,8 @@
 mod Apart
 mod Deterministic
 mod Examples
-mod Globals
 mod Latched
 mod Lines
-mod Lists
 mod Longer
 mod Lowest
 mod Messages
@@ -17,4 +15,3 @@ mod Turns
 mod Values
 mod Verdict
 mod Worlds
-mod rules

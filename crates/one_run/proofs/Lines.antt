@@ -13,9 +13,9 @@ use Rattle.rsml_meaning.specs.Chains.{Ends, meet_in_a_send}
 use Rattle.rsml_meaning.specs.Certified.{Certified}
 use Rattle.rsml_meaning.specs.Steps.{enabled_transitions}
 use Rattle.rsml_meaning.proofs.Same.{instance_same, instance_itself}
-use Rattle.one_run.specs.Scoped.{WellScoped}
+use Rattle.rsml_scopes.specs.Scoped.{WellScoped}
 use Rattle.one_run.specs.MicroSteps.{NoTwoOnALine}
-use Rattle.one_run.proofs.Lists.{both, or_left, or_cases, is_false, each_one, each_ones, each_more, each_filter, any_one, any_some, Two, two_one, two_counted, many_map, filter_twice}
+use Rattle.rsml_scopes.proofs.Lists.{both, or_left, or_cases, is_false, each_one, each_ones, each_more, each_filter, any_one, any_some, Two, two_one, two_counted, many_map, filter_twice}
 use Rattle.rsml_meaning.proofs.Prefixes.{prefix_self, prefix_then}
 use Rattle.one_run.proofs.Sources.{source_active}
 use Rattle.one_run.proofs.Lowest.{lowest_line, lowest_lines_enable_one}

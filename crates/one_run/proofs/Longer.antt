@@ -12,7 +12,7 @@ use Rattle.rsml_meaning.specs.Chains.{Ends, is_chain, linked, leads, is_external
 use Rattle.rsml_meaning.specs.Steps.{enabled_transitions}
 use Rattle.rsml_meaning.proofs.Same.{instance_same, instance_itself}
 use Rattle.one_run.specs.MicroSteps.{Result, IsResult}
-use Rattle.one_run.proofs.Lists.{both, each_filter, each_more, each_ones, each_one, any_one, any_some}
+use Rattle.rsml_scopes.proofs.Lists.{both, each_filter, each_more, each_ones, each_one, any_one, any_some}
 use Rattle.one_run.proofs.Lines.{present_ends}
 
 linked_more : (s : Spec) (es : List Instance) (f e : Instance) → linked s es ≡ true → ends_with f es ≡ true → leads s f e ≡ true → linked s (es ++ (e ∷ [])) ≡ true

@@ -11,10 +11,10 @@ use Rattle.rsml_meaning.specs.Transitions.{TransitionInstance, transitions, is_o
 use Rattle.rsml_meaning.specs.Interfaces.{sends, functions}
 use Rattle.rsml_meaning.specs.Groups.{state, function, state_groups, send_groups, groups, reacts_inside, meets, Sound}
 use Rattle.rsml_meaning.proofs.Same.{instance_same}
-use Rattle.one_run.specs.Scoped.{WellScoped, IsState, IsEvent}
+use Rattle.rsml_scopes.specs.Scoped.{WellScoped, IsState, IsEvent}
 use Rattle.one_run.specs.Deterministic.{IsActiveSource, IsLowestLine, HasLowestLine}
 use Rattle.one_run.specs.Laws.{LowestLinesEnableOne, SourcesHaveLowestLines}
-use Rattle.one_run.proofs.Lists.{both, is_false, each_one, one_map, one_of_map, one_filter, one_front, one_flat_map, any_one, any_some, none_any}
+use Rattle.rsml_scopes.proofs.Lists.{both, is_false, each_one, one_map, one_of_map, one_filter, one_front, one_flat_map, any_one, any_some, none_any}
 use Rattle.rsml_meaning.proofs.Prefixes.{prefix_self, prefix_then, same_path_self, same_path_is}
 use Rattle.one_run.proofs.Sources.{active_in_view, active_of_view}
 

@@ -19,8 +19,8 @@ use Rattle.rsml_meaning.specs.Chains.{is_external}
 use Rattle.rsml_meaning.specs.EventLines.{Bytes, Interface, interface_by, interface, up_to_size, index_told, in_brackets, digits_number, is_empty, name_part, index_part, fields, Fields, words, is_skipped, Message, Outcome, breaks, tells, E1, E2, E3, E4, E5, E6, E7, all_some, value_number, read_values, read_fields, read_instance, read_words, read_line}
 use Rattle.rsml_meaning.specs.EventFiles.{Line, message, messages, without_return}
 use Rattle.rsml_meaning.proofs.Same.{instance_itself}
-use Rattle.one_run.proofs.Lists.{one_map, one_flat_map, any_one}
-use Rattle.one_run.proofs.Globals.{Means, meaning_is, in_up_to}
+use Rattle.rsml_scopes.proofs.Lists.{one_map, one_flat_map, any_one}
+use Rattle.rsml_scopes.proofs.Globals.{Means, meaning_is, in_up_to}
 
 -- A number that a message has for an input is of the input's type.
 abbrev pub IsFit : Globals → Instance × ℤ → Type 0

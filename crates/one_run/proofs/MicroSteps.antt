@@ -15,10 +15,10 @@ use Rattle.rsml_meaning.specs.Instances.{components, globals_of}
 use Rattle.rsml_meaning.specs.Truth.{View, view, learn, bare, within, instance, Gives}
 use Rattle.rsml_meaning.specs.Interfaces.{SendCaseInstance, send_cases, is_sending}
 use Rattle.rsml_meaning.specs.Steps.{Sent, IsValue, AreValues, outcomes, enabled_transitions, enabled_sends, raised_by}
-use Rattle.one_run.specs.Scoped.{WellScoped, ValueIsScoped, AnswerIsScoped}
+use Rattle.rsml_scopes.specs.Scoped.{WellScoped, ValueIsScoped, AnswerIsScoped}
 use Rattle.one_run.specs.MicroSteps.{Result, IsResult, NoTwoOnALine, FunctionsHaveOneValue}
 use Rattle.one_run.specs.Laws.{MicroStepsAreOne, RoundsAreDeterminate}
-use Rattle.one_run.proofs.Lists.{each_filter, each_more}
+use Rattle.rsml_scopes.proofs.Lists.{each_filter, each_more}
 use Rattle.one_run.proofs.Sources.{each_taken}
 use Rattle.one_run.proofs.Apart.{one_outcome, same_children}
 use Rattle.one_run.proofs.Worlds.{micro_steps_exist}

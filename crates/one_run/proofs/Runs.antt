@@ -8,7 +8,7 @@ use Rattle.rsml_meaning.specs.Certified.{Certified}
 use Rattle.rsml_meaning.specs.EventLines.{Message}
 use Rattle.rsml_meaning.specs.EventFiles.{messages, lines_of}
 use Rattle.rsml_meaning.specs.Runs.{first_world, latched, Reaction, IsRunFrom}
-use Rattle.one_run.specs.Scoped.{WellScoped}
+use Rattle.rsml_scopes.specs.Scoped.{WellScoped}
 use Rattle.one_run.specs.Deterministic.{StepsEndInTime}
 use Rattle.one_run.specs.Whole.{StepResult, IsStepResult}
 use Rattle.one_run.specs.Laws.{RunsEndInTime, LinesHaveOneRun, EventFilesHaveOneRun}

@@ -16,9 +16,9 @@ use Rattle.rsml_meaning.specs.Groups.{send, function, send_case, enabled, state_
 use Rattle.rsml_meaning.specs.Chains.{Ends, meet_on_a_line}
 use Rattle.rsml_meaning.specs.Certified.{Certified}
 use Rattle.rsml_meaning.proofs.Same.{instance_same, instance_itself}
-use Rattle.one_run.specs.Scoped.{WellScoped, IsEvent}
+use Rattle.rsml_scopes.specs.Scoped.{WellScoped, IsEvent}
 use Rattle.one_run.specs.MicroSteps.{is_asked, enabled_cases}
-use Rattle.one_run.proofs.Lists.{both, or_right, same_truth, each_flat_map, each_map, each_one, one_map, one_filter, one_front, one_back, one_flat_map, any_one, any_some, many_map, filter_twice, filter_same}
+use Rattle.rsml_scopes.proofs.Lists.{both, or_right, same_truth, each_flat_map, each_map, each_one, one_map, one_filter, one_front, one_back, one_flat_map, any_one, any_some, many_map, filter_twice, filter_same}
 use Rattle.one_run.proofs.Lines.{present_ends}
 
 -- the send instance of a case is one

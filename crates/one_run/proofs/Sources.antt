@@ -16,7 +16,7 @@ use Rattle.rsml_meaning.specs.Truth.{View, view, learn, bare, within, guard}
 use Rattle.rsml_meaning.specs.Transitions.{TransitionInstance, new_transition, transitions_of, transitions, sources, is_enabled}
 use Rattle.rsml_meaning.specs.Steps.{enabled_transitions}
 use Rattle.one_run.specs.Turns.{IsActiveTransition}
-use Rattle.one_run.proofs.Lists.{each_flat_map, each_map, each_filter, each_more, each_ones, each_one, list_all_one, or_left, or_right}
+use Rattle.rsml_scopes.proofs.Lists.{each_flat_map, each_map, each_filter, each_more, each_ones, each_one, list_all_one, or_left, or_right}
 use Rattle.rsml_meaning.proofs.Prefixes.{prefix_rest, proper_append, linear}
 
 abbrev head_or : Step → Path → Step

@@ -11,11 +11,11 @@ use Rattle.rsml_meaning.specs.Steps.{Micro, Sent, Round, IsRound, IsStep}
 use Rattle.rsml_meaning.specs.Transitions.{TransitionInstance}
 use Rattle.rsml_meaning.proofs.Same.{instance_same, instance_itself}
 use Rattle.rsml_meaning.proofs.Ways.{length_or_endless}
-use Rattle.one_run.specs.Scoped.{WellScoped}
+use Rattle.rsml_scopes.specs.Scoped.{WellScoped}
 use Rattle.one_run.specs.MicroSteps.{Result, IsResult}
 use Rattle.one_run.specs.Whole.{StepResult, IsStepResult}
 use Rattle.one_run.specs.Laws.{EventsHaveLengths, StepsAreShort, StepsAreOne}
-use Rattle.one_run.proofs.Lists.{both}
+use Rattle.rsml_scopes.proofs.Lists.{both}
 use Rattle.one_run.proofs.Worlds.{micro_steps_leave_worlds}
 use Rattle.one_run.proofs.MicroSteps.{rounds_are_determinate}
 use Rattle.one_run.proofs.Longer.{next_longer}

@@ -19,7 +19,7 @@ use Rattle.rsml_meaning.specs.Certified.{Certified}
 use Rattle.rsml_meaning.specs.InOrder.{IsInOrder}
 use Rattle.rsml_meaning.proofs.Stable.{functions_give_their_cases}
 use Rattle.one_run.specs.MicroSteps.{FunctionsHaveOneValue}
-use Rattle.one_run.proofs.Lists.{each_flat_map, each_map, each_one, one_back, one_map, many, many_map}
+use Rattle.rsml_scopes.proofs.Lists.{each_flat_map, each_map, each_one, one_back, one_map, many, many_map}
 
 -- as many values as cases with a true guard
 as_many : (v : View) (r : Indices) (n : ℕ) (cases : List Case) → length (values_given v r cases) ≡ many (λ (c : ℕ × Case). guard v r c.1.guard) (numbered_from n cases)

@@ -15,10 +15,10 @@ use Rattle.rsml_meaning.specs.Findings.{Verdict, sound, none, two, IsVerdict}
 use Rattle.rsml_meaning.specs.Report.{ClashFound, Answers, AreRight, externals, looping, IsClashAnswer, is_finding, refusals}
 use Rattle.rsml_meaning.proofs.Same.{instance_same, instance_itself}
 use Rattle.rsml_meaning.proofs.Ways.{length_or_endless}
-use Rattle.one_run.specs.Scoped.{WellScoped, IsEvent}
+use Rattle.rsml_scopes.specs.Scoped.{WellScoped, IsEvent}
 use Rattle.one_run.specs.Laws.{LastLineIsVerdict}
-use Rattle.one_run.proofs.Lists.{each_one, one_filter, any_one, any_some}
-use Rattle.one_run.proofs.rules.Scoped.{rules_give_scopes}
+use Rattle.rsml_scopes.proofs.Lists.{each_one, one_filter, any_one, any_some}
+use Rattle.rsml_scopes.proofs.rules.Scoped.{rules_give_scopes}
 
 -- What stands on a chain is an event of the specification.
 

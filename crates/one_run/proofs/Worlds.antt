@@ -17,7 +17,7 @@ use Rattle.rsml_meaning.specs.Steps.{given_by, or_kept, outcomes, enabled_transi
 use Rattle.rsml_meaning.proofs.Computed.{sent_by, world_after}
 use Rattle.rsml_meaning.proofs.Exists.{fits, micro_is}
 use Rattle.one_run.specs.Laws.{MicroStepsExist, MicroStepsLeaveWorlds}
-use Rattle.one_run.proofs.Lists.{both}
+use Rattle.rsml_scopes.proofs.Lists.{both}
 
 -- There is a micro-step.
 

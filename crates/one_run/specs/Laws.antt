@@ -14,17 +14,11 @@ use Rattle.rsml_meaning.specs.Steps.{enabled_transitions, AreOutcomes}
 use Rattle.rsml_meaning.specs.EventFiles.{Limits, Line, messages}
 use Rattle.rsml_meaning.specs.Runs.{Reaction, IsRun, HaveOneRun, HasOneRun}
 use Rattle.rsml_meaning.specs.Report.{Answers, AreRight, refusals}
-use Rattle.one_run.specs.Scoped.{WellScoped}
+use Rattle.rsml_scopes.specs.Scoped.{WellScoped}
 use Rattle.one_run.specs.MicroSteps.{Result, IsResult, HasOneResult, NoTwoOnALine, FunctionsHaveOneValue, IsDeterminate}
 use Rattle.one_run.specs.Deterministic.{IsLowestLine, IsActiveSource, HasLowestLine, StepsEndInTime, IsDeterministic}
 use Rattle.one_run.specs.Turns.{IsActiveTransition, after_all}
 use Rattle.one_run.specs.Whole.{StepResult, IsStepResult, HasOneStep}
-
--- What the rules give.
-
--- a specification that keeps the rules S1 to S16 is well scoped
-abbrev pub RulesGiveScopes : Type 0
-RulesGiveScopes = (s : Spec) → broken_rule s ≡ None → WellScoped s
 
 -- Micro-steps of any specification.
 

@@ -1,6 +1,5 @@
 pub mod Deterministic
 pub mod Laws
 pub mod MicroSteps
-pub mod Scoped
 pub mod Turns
 pub mod Whole

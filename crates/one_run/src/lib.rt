@@ -6,7 +6,6 @@ mod headline;
 mod lowest_lines;
 mod micro_steps;
 mod rounds;
-mod scopes;
 mod verdicts;
 mod whole_steps;
 
@@ -15,6 +14,5 @@ pub use headline::certified_specifications_are_deterministic;
 pub use lowest_lines::lowest_lines_enable_one;
 pub use micro_steps::micro_steps_have_one_result;
 pub use rounds::{order_does_not_matter, rounds_are_determinate};
-pub use scopes::rules_give_scopes;
 pub use verdicts::last_lines_tell_the_verdict;
 pub use whole_steps::steps_have_one_result;

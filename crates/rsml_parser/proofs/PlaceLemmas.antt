@@ -17,7 +17,7 @@ cut_again (t ∷ f) r (u ∷ g) s h =
       | inr e ↦ inr (e.0, e.1, ap (λ (t : Token). t ∷ f) heads ∙ ap (λ (l : Tokens). u ∷ l) e.2, e.3)
     ]
 
--- a front of a front begins a specification
+-- a prefix of a prefix begins a specification
 begins_before : (f : Tokens) (t : Token) (m : Tokens) → Begins (f ++ t ∷ m) → Begins (f ++ t ∷ [])
 begins_before f t m b = (b.0, m ++ b.1, b.2, b.3 ∙ append_assoc f (t ∷ m) b.1 ∙ sym (append_assoc f (t ∷ []) (m ++ b.1)))
 

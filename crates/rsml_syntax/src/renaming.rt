@@ -1,5 +1,5 @@
 //! Renames what is a name in the first edition and a reserved word in the second.
-ghost use Rattle.std.specs.Prelude.{◌≡◌, ℕ, List, IfOk, IsTrue, if◌then◌else◌, length, map};
+ghost use Rattle.std.specs.Prelude.{◌≡◌, ℕ, List, IfOk, OnOk, IsTrue, if◌then◌else◌, length, map};
 ghost use Rattle.std.specs.List.{list_any};
 ghost use Rattle.rsml_syntax.specs.declared.edition.Edition.TheVariants as editions;
 ghost use Rattle.rsml_syntax.specs.declared.token.Token.TheVariants as variants;
@@ -56,7 +56,7 @@ fn renamed_token(alloc: Global, name: &[u8], token: &Token) -> Result<Token, NoM
 fn each_renamed(alloc: Global, name: &[u8], tokens: &[Placed]) -> Result<Vec<Placed>, NoMemory>
     ensures { IfOk result (λ v. v.items ≡ map (rename name.now) tokens.now) }
 {
-    let mut renamed = Vec::new(alloc);
+    let mut renamed = Vec::with_capacity(alloc, tokens.len())?;
     for placed in tokens {
         let token = renamed_token(alloc, name, &placed.token)?;
         renamed.push(Placed {
@@ -67,12 +67,12 @@ fn each_renamed(alloc: Global, name: &[u8], tokens: &[Placed]) -> Result<Vec<Pla
     Ok(renamed)
 }
 
-/// The names of the tokens.
+/// The names of the tokens. About every second token of a text with many names is one.
 fn names<'a>(alloc: Global, tokens: &'a [Placed]) -> Result<IndexSet<&'a [u8]>, NoMemory>
     ensures { IfOk result (λ set. (name : Name) →
         list_any (λ x. same name x.now) set.keys ≡ is_in name (names_of tokens.now)) }
 {
-    let mut names = IndexSet::new(alloc);
+    let mut names = IndexSet::with_capacity(alloc, tokens.len() / 2)?;
     for placed in tokens {
         if let Token::Name(name) = &placed.token {
             names.insert(name.bytes())?;
@@ -81,13 +81,14 @@ fn names<'a>(alloc: Global, tokens: &'a [Placed]) -> Result<IndexSet<&'a [u8]>, 
     Ok(names)
 }
 
-fn numbered_name(alloc: Global, number: u64) -> Result<Vec<u8>, NoMemory>
-    ensures { IfOk result (λ v. v.items ≡ spec.numbered_name number) }
+/// Writes a numbered name in place of what the buffer holds.
+fn write_numbered_name(name: &mut Vec<u8>, number: u64) -> Result<(), NoMemory>
+    ensures { OnOk result (name.new.items ≡ spec.numbered_name number) }
 {
-    let mut name = Vec::new(alloc);
-    put(&mut name, b"previous_")?;
-    put_number(&mut name, number)?;
-    Ok(name)
+    name.clear();
+    put(name, b"previous_")?;
+    put_number(name, number)?;
+    Ok(())
 }
 
 /// The first numbered name that no token is. There is one, since `previous` itself is among the names.
@@ -97,9 +98,10 @@ fn unused_name(alloc: Global, tokens: &[Placed]) -> Result<Vec<u8>, NoMemory>
     ensures name { IfOk result (λ v. IsFreeName editions.Second v.items) }
 {
     let names = names(alloc, tokens)?;
+    let mut name = Vec::new(alloc);
     let mut number = 1;
     loop {
-        let name = numbered_name(alloc, number)?;
+        write_numbered_name(&mut name, number)?;
         if !names.contains(name.as_slice()) {
             return Ok(name);
         }

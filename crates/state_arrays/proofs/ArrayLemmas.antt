@@ -137,7 +137,6 @@ module _ {S : Type 0} (m n : IndexMap (Bor Name) Array S) (name : Bor Name) (a :
       ∙ length-append (instances_of m.entries) (map (at name.now) (range a.indices.low a.indices.high))
       ∙ ap (λ (c : ℕ). length (instances_of m.entries) + c) (range_length name.now (range a.indices.low a.indices.high))
 
--- a place is one of the list
 place_below : {A : Type 0} (t : A → Bool) (p : ℕ) (xs : List A) (n : ℕ) → position_from t p xs ≡ Some n → n < p + length xs
 place_below t p [] n h = cc
 place_below t p (x ∷ xs) n h = by (t x) h (place_below t (p + 1) xs n)
@@ -146,9 +145,11 @@ place_below t p (x ∷ xs) n h = by (t x) h (place_below t (p + 1) xs n)
     by true k next = let e : p ≡ n = cc in omega (arith, e)
     by false k next = let l = next k in omega (arith, l)
 
-place_within : (xs : List Instance) (x : Instance) (o : Option ℕ) → length xs ≤ 1024 → o ≡ place_in xs x → IfSome o (λ n. n < 1024)
-place_within xs x None h e = tt
-place_within xs x (Some n) h e = let l = place_below (same_instance x) 0 xs n (sym e) in omega (arith, l, h)
+-- a place is one of the list
+pub place_within : (xs : List Instance) (x : Instance) (o : Option ℕ) → o ≡ place_in xs x → IfSome o (λ n. n < length xs)
+place_within xs x None e = tt
+place_within xs x (Some n) e = let l = place_below (same_instance x) 0 xs n (sym e) in omega (arith, l)
 
-pub found_few : {S : Type 0} (m : IndexMap (Bor Name) Array S) (n : ℕ) (k : Name) (i : ℕ) (a : Array) (o : Option ℕ) → AreFound m n → get_by (λ x. same k x.now) m ≡ Some a → o ≡ by_array (Some a) i → IfSome o (λ n. n < 1024)
-found_few m n k i a o h e f = place_within (instances_of m.entries) (at k i) o h.few (f ∙ ap (λ (b : Option Array). by_array b i) (sym e) ∙ h.places k i)
+pub found_within : {S : Type 0} (m : IndexMap (Bor Name) Array S) (n : ℕ) (k : Name) (i : ℕ) (a : Array) (o : Option ℕ) (xs : List Instance) → AreFound m n → instances_of m.entries ≡ xs → get_by (λ x. same k x.now) m ≡ Some a
+    → o ≡ by_array (Some a) i → IfSome o (λ n. n < length xs)
+found_within m n k i a o xs h v e f = place_within xs (at k i) o (f ∙ ap (λ (b : Option Array). by_array b i) (sym e) ∙ h.places k i ∙ ap (λ (ys : List Instance). place_in ys (at k i)) v)

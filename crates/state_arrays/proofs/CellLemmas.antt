@@ -65,7 +65,7 @@ module _ (s : Spec) where
   decl_inputs (decl.Receive name size inputs raised) = refl
   decl_inputs (decl.Send name size fields cases) = refl
 
-  all_inputs : (ds : List Decl) → map input_of (flat_map (cells_of (globals_of s)) ds) ≡ flat_map (inputs_of (globals_of s)) ds
+  pub all_inputs : (ds : List Decl) → map input_of (flat_map (cells_of (globals_of s)) ds) ≡ flat_map (inputs_of (globals_of s)) ds
   all_inputs [] = refl
   all_inputs (d ∷ ds) =
       map-append input_of (cells_of (globals_of s) d) (flat_map (cells_of (globals_of s)) ds)
@@ -108,7 +108,7 @@ module _ (s : Spec) where
       ∙ ap (λ (xs : List Instance). xs ++ map input_of (filter (λ c. names_previous s c.input.name) (flat_map (cells_of (globals_of s)) ds))) (decl_kept d)
       ∙ ap (λ (xs : List Instance). previous_of (previous_names s) (globals_of s) d ++ xs) (all_kept ds)
 
-  own_each : Each (λ c. c.previous ≡ false) (own_cells s)
+  pub own_each : Each (λ c. c.previous ≡ false) (own_cells s)
   own_each = each_flat_map (λ c. c.previous ≡ false) (cells_of (globals_of s)) s.decls (λ d m. of_decl d)
     where
       of_decl : (d : Decl) → Each (λ c. c.previous ≡ false) (cells_of (globals_of s) d)

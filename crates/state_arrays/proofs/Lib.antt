@@ -1,6 +1,7 @@
 pub mod ArrayLemmas
 pub mod CellLemmas
 pub mod Distinct
+pub mod InterfaceLemmas
 pub mod MadeLemmas
 pub mod NumberLemmas
 pub mod PathLemmas

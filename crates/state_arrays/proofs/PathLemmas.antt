@@ -114,6 +114,24 @@ abbrev pub IsAfter : List State → Path → Option ℕ → Type 0
 IsAfter xs p None = p ≡ []
 IsAfter xs p (Some n) = path_at xs n ≡ Some p
 
+-- a state that has a path is found by it
+pub found_at : (xs : List State) (p : Path) → HasPath xs p → (n : ℕ) × (path_place xs p ≡ Some n)
+found_at xs p h = from xs 0 h.0 h.1
+  where
+    from : (xs : List State) (k n : ℕ) → path_at xs n ≡ Some p → (m : ℕ) × (position_from (λ (x : State). same_path p x.path) k xs ≡ Some m)
+    from [] k n e = cc
+    from (x ∷ xs) k zero e = (k, ap (λ (b : Bool). cond b (Some k) (position_from (λ (x : State). same_path p x.path) (k + 1) xs)) (ap (same_path p) (let f : x.path ≡ p = cc in f) ∙ path_itself p))
+    from (x ∷ xs) k (suc n) e = by (same_path p x.path) (from xs (k + 1) n e)
+      where
+        by : (b : Bool) → (m : ℕ) × (position_from (λ (x : State). same_path p x.path) (k + 1) xs ≡ Some m) → (m : ℕ) × (cond b (Some k) (position_from (λ (x : State). same_path p x.path) (k + 1) xs) ≡ Some m)
+        by true r = (k, refl)
+        by false r = r
+
+-- the place of a child, among states that are known
+pub child_known : (xs ys : List State) (n : ℕ) (step : Instance) (o : Option ℕ) → xs ≡ ys → ((p : Path) → path_at xs n ≡ Some p → o ≡ path_place xs (child_path p step))
+    → (p : Path) → path_at ys n ≡ Some p → o ≡ path_place ys (child_path p step)
+child_known xs ys n step o e h = subst (λ zs. (p : Path) → path_at zs n ≡ Some p → o ≡ path_place zs (child_path p step)) e h
+
 -- Trees.
 
 module _ (xs : List State) (tree : IsTree xs) where
@@ -132,7 +150,7 @@ module _ (xs : List State) (tree : IsTree xs) where
       by (Some n) e = absurd (h (n, at_place xs n p e))
 
   -- with a path each beginning of it is there
-  begins : (n : ℕ) (q r : Path) → length r ≡ n → (q ≡ [] → ⊥) → HasPath xs (q ++ r) → HasPath xs q
+  pub begins : (n : ℕ) (q r : Path) → length r ≡ n → (q ≡ [] → ⊥) → HasPath xs (q ++ r) → HasPath xs q
   begins n q [] l some h = subst (HasPath xs) (append-nil q) h
   begins zero q (x ∷ r) l some h = absurd (let no : ⊥ = omega (arith, l) in no)
   begins (suc n) q (x ∷ r) l some h =

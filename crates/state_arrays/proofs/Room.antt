@@ -1,5 +1,6 @@
 -- The limits leave room for the instances.
 use Rattle.std.proofs.Common.{◌≡◌, ℕ, zero, suc, ◌+◌, ◌*◌, ◌≤◌, Bool, true, false, List, [], ◌∷◌, ◌++◌, map, flat_map, length, Option, Some, None, nat_lt, if◌then◌else◌, refl, ap, ◌∙◌, arith, length-append}
+use Rattle.std.specs.Prelude.{⊤}
 use Rattle.std.proofs.lemmas.Bool.Decides.{nat_tests}
 use Rattle.rsml_syntax.specs.declared.syntax.Spec.{Spec}
 use Rattle.rsml_syntax.specs.declared.syntax.Decl.{Decl}
@@ -9,38 +10,42 @@ use Rattle.rsml_syntax.specs.text.Names.{Name, is_in}
 use Rattle.rsml_syntax.specs.rules.Globals.{Globals, globals, many, up_to, indices, names_of}
 use Rattle.rsml_syntax.specs.limits.Previous.{names_previous}
 use Rattle.rsml_syntax.specs.grammar.Parts.{Part, Declared, Opens, Closes, declared, inside, top_of, parts}
-use Rattle.rsml_syntax.specs.limits.Limits.{Limit, adds, total, limit, states_at, transitions_at, events_at, cells_at, definitions_at, rows_at, thresholds_and_keys, shown, first_over, over}
+use Rattle.rsml_syntax.specs.limits.Limits.{Limit, adds, total, limits, states_at, events_at, cells_at, definitions_at, shown, first_over, over}
 use Rattle.rsml_limits.proofs.Adding.{adds_append}
 use Rattle.rsml_meaning.specs.Words.{Instance, at}
 use Rattle.rsml_meaning.specs.Instances.{globals_of, instances, events_of, events}
-use Rattle.state_arrays.specs.Made.{inputs_of, previous_of}
+use Rattle.state_arrays.specs.Made.{inputs_of, previous_of, definitions_made}
 
 -- Limits.
 
-later_kept : (s : Spec) (l : Limit) (ls : List Limit) → first_over s (l ∷ ls) ≡ None → (l.count s ≤ l.greatest) × (first_over s ls ≡ None)
-later_kept s l ls h = by (nat_lt l.greatest (l.count s)) refl h
+-- each of these limits is kept
+abbrev AreKept : Spec → List Limit → Type 0
+AreKept s [] = ⊤
+AreKept s (l ∷ ls) = (l.count s ≤ l.greatest) × AreKept s ls
+
+all_kept : (s : Spec) (ls : List Limit) → first_over s ls ≡ None → AreKept s ls
+all_kept s [] h = tt
+all_kept s (l ∷ ls) h = by (nat_lt l.greatest (l.count s)) refl h (λ k. all_kept s ls k)
   where
     chosen : Bool → Option (ℕ × ℕ)
     chosen b = elim b [ true ↦ Some (l.number, shown (l.count s)) | false ↦ first_over s ls ]
 
-    by : (b : Bool) → nat_lt l.greatest (l.count s) ≡ b → chosen b ≡ None → (l.count s ≤ l.greatest) × (first_over s ls ≡ None)
-    by true e k = cc
-    by false e k = (grind (arith, nat_tests), k)
+    by : (b : Bool) → nat_lt l.greatest (l.count s) ≡ b → chosen b ≡ None → (first_over s ls ≡ None → AreKept s ls) → (l.count s ≤ l.greatest) × AreKept s ls
+    by true e k next = cc
+    by false e k next = (grind (arith, nat_tests), next k)
 
--- What the limits say of states, events and cells.
+-- What the limits say of states, events, cells, and macros and functions.
 pub record AreFew (s : Spec) : Type 0 where
   pub states : total states_at s ≤ 4096
   pub events : total events_at s ≤ 1024
   pub cells : total (cells_at s) s ≤ 1024
+  pub definitions : total definitions_at s ≤ 8192
+
+few_by : (s : Spec) → AreKept s limits → AreFew s
+few_by s h = record { states = h.0; events = h.1.1.0; cells = h.1.1.1.0; definitions = h.1.1.1.1.0 }
 
 pub few : (s : Spec) → over s ≡ None → AreFew s
-few s h =
-    let four = limit 4 (λ s. total (cells_at s) s) 1024 ∷ limit 5 (total definitions_at) 8192 ∷ limit 6 (total rows_at) 65536 ∷ limit 7 thresholds_and_keys 2048 ∷ [] in
-    let one = later_kept s (limit 1 (total states_at) 4096) (limit 2 (total transitions_at) 8192 ∷ limit 3 (total events_at) 1024 ∷ four) h in
-    let two = later_kept s (limit 2 (total transitions_at) 8192) (limit 3 (total events_at) 1024 ∷ four) one.1 in
-    let three = later_kept s (limit 3 (total events_at) 1024) four two.1 in
-    let last = later_kept s (limit 4 (λ s. total (cells_at s) s) 1024) (limit 5 (total definitions_at) 8192 ∷ limit 6 (total rows_at) 65536 ∷ limit 7 thresholds_and_keys 2048 ∷ []) three.1 in
-    record { states = one.0; events = three.0; cells = last.0 }
+few s h = few_by s (all_kept s limits h)
 
 -- Counts.
 
@@ -134,5 +139,22 @@ previous_few s names h =
     of_decl place (decl.Constant name value) = omega arith
     of_decl place (decl.Macro name size rows) = omega arith
     of_decl place (decl.Function name size cases) = omega arith
+    of_decl place (decl.Receive name size inputs raised) = omega arith
+    of_decl place (decl.Send name size fields cases) = omega arith
+
+pub definitions_few : (s : Spec) → AreFew s → length (flat_map (definitions_made (globals_of s)) s.decls) ≤ 8192
+definitions_few s h =
+    let all = made_of_parts s (definitions_made (globals_of s)) (definitions_at (globals s.decls)) of_decl in
+    let less = h.definitions in
+    omega (arith, all, less)
+  where
+    of_decl : (place : ℕ) (d : Decl) → length (definitions_made (globals_of s) d) ≤ definitions_at (globals s.decls) (Declared place d)
+    of_decl place (decl.Event name size) = omega arith
+    of_decl place (decl.Enumeration name values) = omega arith
+    of_decl place (decl.Range name low high) = omega arith
+    of_decl place (decl.Constant name value) = omega arith
+    of_decl place (decl.Input name size kind initial) = omega arith
+    of_decl place (decl.Macro name size rows) = let e = many_instances (globals_of s) name size in omega (arith, e)
+    of_decl place (decl.Function name size cases) = let e = many_instances (globals_of s) name size in omega (arith, e)
     of_decl place (decl.Receive name size inputs raised) = omega arith
     of_decl place (decl.Send name size fields cases) = omega arith

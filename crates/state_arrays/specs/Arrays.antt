@@ -1,5 +1,5 @@
 -- The instances of names, each name with the place of its first instance and its indices.
-use Rattle.std.specs.Prelude.{◌≡◌, ℕ, ◌≤◌, Bool, List, map, flat_map, length, Option}
+use Rattle.std.specs.Prelude.{◌≡◌, ℕ, Bool, List, map, flat_map, length, Option}
 use Rattle.std.specs.Option.{option_and_then}
 use Rattle.std.specs.List.{list_any}
 use Rattle.std.specs.Borrow.{Bor}
@@ -30,4 +30,3 @@ found m name index =
 pub record AreFound {S : Type 0} (m : IndexMap (Bor Name) Array S) (count : ℕ) : Type 0 where
   pub places : (name : Name) (index : ℕ) → found m name index ≡ place_in (instances_of m.entries) (at name index)
   pub is_count : count ≡ length (instances_of m.entries)
-  pub few : length (instances_of m.entries) ≤ 1024

@@ -1,14 +1,18 @@
 ghost use Rattle.std.specs.Prelude.{◌≡◌, ◌≤◌};
 ghost use Rattle.state_arrays.specs.Ranges.{place_from, range};
+ghost use Rattle.state_arrays.specs.declared.array.TheConstants.{GREATEST_FIRST};
 
 use crate::index_range::IndexRange;
+
+/// The greatest place of a first instance: the places of those behind it fit a `u32`.
+pub const GREATEST_FIRST: u32 = u32::MAX - 256;
 
 /// The instances of one name: the place of the first, and their indices.
 #[derive(Clone, Copy)]
 pub struct Array {
     pub first: u32,
     pub indices: IndexRange,
-    ghost room: { first ≤ 1024 },
+    ghost room: { first ≤ GREATEST_FIRST },
 }
 
 impl Array {

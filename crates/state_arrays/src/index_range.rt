@@ -34,7 +34,8 @@ impl IndexRange {
 
     /// How many there are.
     pub fn count(self) -> u32
-        ensures { result ≡ length (range self.low self.high) }
+        ensures is { result ≡ length (range self.low self.high) }
+        ensures small { result ≤ 256 }
     {
         u32::from(self.high - self.low) + 1
     }

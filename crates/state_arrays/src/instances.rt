@@ -1,9 +1,9 @@
-ghost use Rattle.std.specs.Prelude.{◌≡◌, ◌+◌, ◌<◌, ◌≤◌, [], ◌++◌, IfOk, IfSome, false, length, map};
+ghost use Rattle.std.specs.Prelude.{◌≡◌, ◌<◌, [], ◌++◌, IfOk, IfSome, false, length, map};
 ghost use Rattle.rsml_meaning.specs.Words.{at, place_in};
 ghost use Rattle.state_arrays.specs.Arrays.{has_name};
 ghost use Rattle.state_arrays.specs.Ranges.{range};
 
-use crate::array::Array;
+use crate::array::{Array, GREATEST_FIRST};
 use crate::index_range::IndexRange;
 use indexmap::IndexMap;
 use rsml_syntax::NoMemory;
@@ -42,8 +42,7 @@ impl<'a> Instances<'a> {
 
     /// How many there are.
     pub fn count(&self) -> u32
-        ensures is { result ≡ length self.now }
-        ensures few { result ≤ 1024 }
+        ensures { result ≡ length self.now }
     {
         self.count
     }
@@ -51,7 +50,7 @@ impl<'a> Instances<'a> {
     /// The place of the instance of a name at an index.
     pub fn place(&self, name: &[u8], index: u8) -> Option<u32>
         ensures at { result ≡ place_in self.now (at name.now index) }
-        ensures few { IfSome result (λ place. place < 1024) }
+        ensures within { IfSome result (λ place. place < length self.now) }
     {
         match self.arrays.get(name) {
             Some(array) => array.place(index),
@@ -59,14 +58,17 @@ impl<'a> Instances<'a> {
         }
     }
 
-    /// These instances, and behind them those of one more name.
+    /// These instances, and behind them those of one more name. NoMemory also where there are so many
+    /// that a place would not fit a `u32`.
     pub fn with(self, name: &'a [u8], indices: IndexRange) -> Result<Instances<'a>, NoMemory>
-        requires new { has_name self name.now ≡ false }
-        requires room { length self + length (range indices.low indices.high) ≤ 1024 }
+        requires { has_name self name.now ≡ false }
         ensures { IfOk result (λ r.
             r ≡ self.entry ++ map (at name.now) (range indices.low indices.high)) }
     {
         let Instances { mut arrays, count } = self;
+        if count > GREATEST_FIRST {
+            return Err(NoMemory);
+        }
         let array = Array {
             first: count,
             indices,

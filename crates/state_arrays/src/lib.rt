@@ -6,8 +6,12 @@ mod array;
 mod child;
 mod declared;
 mod index_range;
+mod input_names;
 mod instances;
+mod interface_names;
 mod names;
 mod paths;
 
+pub use declared::receive_instances;
+pub use instances::Instances;
 pub use names::Names;

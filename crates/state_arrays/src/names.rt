@@ -1,11 +1,13 @@
-ghost use Rattle.std.specs.Prelude.{◌≡◌, IfOk, IfSome, Some};
+ghost use Rattle.std.specs.Prelude.{◌≡◌, ◌<◌, IfOk, IfSome, Some};
 ghost use Rattle.std.specs.Option.{option_map};
-ghost use Rattle.rsml_meaning.specs.Words.{at, place_in};
+ghost use Rattle.rsml_meaning.specs.Words.{Path as Steps, at, child_path, place_in};
 ghost use Rattle.rsml_meaning.specs.Instances as instances;
-ghost use Rattle.state_arrays.specs.Places.{cell_place, previous_place, path_place, path_at};
+ghost use Rattle.state_arrays.specs.Places.{cell_place, previous_place, definition_place, receive_place, send_place, path_place, path_at};
 
-use crate::declared::{events, inputs, previous_inputs};
+use crate::declared::events;
+use crate::input_names::InputNames;
 use crate::instances::Instances;
+use crate::interface_names::InterfaceNames;
 use crate::paths::Paths;
 use rsml_limits::previous_names;
 use rsml_names::Globals;
@@ -18,8 +20,8 @@ use std::marker::Model;
 pub struct Names<'a> {
     spec: &'a Spec,
     events: Instances<'a>,
-    inputs: Instances<'a>,
-    previous: Instances<'a>,
+    cells: InputNames<'a>,
+    interfaces: InterfaceNames<'a>,
     paths: Paths<'a>,
 }
 
@@ -36,7 +38,8 @@ impl<'a> Model for Names<'a> {
 
     ghost view = { λ n. n.spec.now };
 
-    ghost invariant = { λ n. AreNumbered n.spec.now n.events n.inputs n.previous n.paths };
+    ghost invariant = { λ n. AreNumbered n.spec.now n.events n.cells.inputs n.cells.previous
+        n.interfaces.definitions n.interfaces.receives n.interfaces.sends n.paths };
 }
 
 impl<'a> Names<'a> {
@@ -49,14 +52,14 @@ impl<'a> Names<'a> {
         let globals = Globals::new(alloc, decls)?;
         let after_previous = previous_names(alloc, spec)?;
         let events = events(alloc, &globals, decls)?;
-        let inputs = inputs(alloc, &globals, decls)?;
-        let previous = previous_inputs(alloc, &globals, &after_previous, decls)?;
+        let cells = InputNames::new(alloc, &globals, &after_previous, decls)?;
+        let interfaces = InterfaceNames::new(alloc, &globals, decls)?;
         let paths = Paths::new(alloc, checked)?;
         Ok(Names {
             spec,
             events,
-            inputs,
-            previous,
+            cells,
+            interfaces,
             paths,
         })
     }
@@ -79,15 +82,37 @@ impl<'a> Names<'a> {
     pub fn cell_of(&self, name: &[u8], index: u8) -> Option<u32>
         ensures { result ≡ cell_place self.now (at name.now index) }
     {
-        self.inputs.place(name, index)
+        self.cells.inputs.place(name, index)
     }
 
     /// The place of the cell that holds the previous number of an input, among the cells.
     pub fn previous_of(&self, name: &[u8], index: u8) -> Option<u32>
         ensures { result ≡ previous_place self.now (at name.now index) }
     {
-        let place = self.previous.place(name, index)?;
-        Some(self.inputs.count() + place)
+        let place = self.cells.previous.place(name, index)?;
+        Some(self.cells.inputs.count() + place)
+    }
+
+    /// The place of a macro or function instance, in their one list.
+    pub fn definition_of(&self, name: &[u8], index: u8) -> Option<u32>
+        ensures place { result ≡ definition_place self.now (at name.now index) }
+        ensures few { IfSome result (λ place. place < 8192) }
+    {
+        self.interfaces.definitions.place(name, index)
+    }
+
+    /// The place of a receive instance.
+    pub fn receive_of(&self, name: &[u8], index: u8) -> Option<u32>
+        ensures { result ≡ receive_place self.now (at name.now index) }
+    {
+        self.interfaces.receives.place(name, index)
+    }
+
+    /// The place of a send instance.
+    pub fn send_of(&self, name: &[u8], index: u8) -> Option<u32>
+        ensures { result ≡ send_place self.now (at name.now index) }
+    {
+        self.interfaces.sends.place(name, index)
     }
 
     /// The number of the state of a path: its place among the state instances.
@@ -97,6 +122,14 @@ impl<'a> Names<'a> {
             path_at (instances.states self.now) node ≡ Some path.now.steps) }
     {
         self.paths.node(path)
+    }
+
+    /// The number of the child of this name and index of a state, which has a path.
+    pub fn child_of(&self, node: u32, name: &[u8], index: u8) -> Option<u32>
+        ensures { (path : Steps) → path_at (instances.states self.now) node ≡ Some path
+            → result ≡ path_place (instances.states self.now) (child_path path (at name.now index)) }
+    {
+        self.paths.child(node, name, index)
     }
 
     /// The path of the state of a number. None exactly where there are no more states than that.

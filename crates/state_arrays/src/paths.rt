@@ -1,6 +1,7 @@
 ghost use Rattle.std.specs.Prelude.{◌≡◌, IfOk, IfSome, Some};
 ghost use Rattle.std.specs.Option.{option_map};
 ghost use Rattle.rsml_syntax.specs.limits.Checked.{IsChecked};
+ghost use Rattle.rsml_meaning.specs.Words.{Path as Steps, at, child_path};
 ghost use Rattle.rsml_meaning.specs.Instances.{states};
 ghost use Rattle.state_arrays.specs.Places.{path_place, path_at};
 ghost use Rattle.state_arrays.specs.Trees.{IsTree};
@@ -82,6 +83,19 @@ impl<'a> Paths<'a> {
             node = Some(*numbers.get(&child)?);
         }
         node
+    }
+
+    /// The number of the child of this name and index of a state instance.
+    pub fn child(&self, node: u32, name: &[u8], index: u8) -> Option<u32>
+        ensures place { (path : Steps) → path_at self.now node ≡ Some path
+            → result ≡ path_place self.now (child_path path (at name.now index)) }
+    {
+        let child = Child {
+            parent: Some(node),
+            name,
+            index,
+        };
+        self.numbers.get(&child).copied()
     }
 
     /// The path of a state instance.

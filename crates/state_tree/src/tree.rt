@@ -70,6 +70,13 @@ impl<'a> Tree<'a> {
         self.nodes.len()
     }
 
+    /// The state instances.
+    pub fn states(&self) -> &Nodes<'a>
+        ensures { result.now ≡ states self.now }
+    {
+        &self.nodes
+    }
+
     /// How many components there are.
     pub fn components(&self) -> u32
         ensures { result ≡ length (components self.now) }

@@ -1,4 +1,4 @@
-use Rattle.std.proofs.Common.{◌++◌, map, ap, ◌∙◌, arith, length}
+use Rattle.std.proofs.Common.{◌++◌, map, ap, ◌∙◌, arith}
 use Rattle.rsml_meaning.specs.Words.{at}
 use Rattle.state_arrays.specs.Ranges.{range}
 use Rattle.state_arrays.specs.Arrays.{has_name}
@@ -10,19 +10,16 @@ invariant_of-result c =
     let u = c.in_ok-insert.ensures.updates in
     let e = c.in_ok-insert.ensures.entries in
     let v = c.self.invariant in
-    let new = ap (λ xs. has_name xs c.args.name.now) c.self.view_is ∙ c.requires.new in
+    let new = ap (λ xs. has_name xs c.args.name.now) c.self.view_is ∙ c.requires in
     let l = put_length c.self.inside.arrays c.insert.new.self c.args.name _ new e v.places in
-    let room = c.requires.room in
-    let old = ap length c.self.view_is in
-    let counted = c.count.ensures in
+    let counted = c.count.ensures.is in
     let before = v.is_count in
     record {
       places = put_found c.self.inside.arrays c.insert.new.self c.args.name _ new e v.places v.is_count u.0;
       is_count = omega (arith, before, counted, l);
-      few = omega (arith, l, room, old);
     }
 
 pub returns : goal.returns
 returns c =
-    put_last c.self.inside.arrays c.insert.new.self c.args.name _ (ap (λ xs. has_name xs c.args.name.now) c.self.view_is ∙ c.requires.new) c.in_ok-insert.ensures.entries c.self.invariant.places
+    put_last c.self.inside.arrays c.insert.new.self c.args.name _ (ap (λ xs. has_name xs c.args.name.now) c.self.view_is ∙ c.requires) c.in_ok-insert.ensures.entries c.self.invariant.places
     ∙ ap (λ xs. xs ++ map (at c.args.name.now) (range c.args.indices.low c.args.indices.high)) c.self.view_is

@@ -1,0 +1,9 @@
+pub mod LineLists
+pub mod Splits
+pub mod Widths
+pub mod SkippedLemmas
+pub mod PieceLemmas
+pub mod WindowLemmas
+pub mod AnswerLemmas
+pub mod ToldLemmas
+pub mod CallerLemmas

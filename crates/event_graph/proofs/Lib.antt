@@ -1,0 +1,7 @@
+mod BitLemmas
+mod RowLemmas
+mod Pigeons
+mod LengthLemmas
+mod ReachLemmas
+mod RoundLemmas
+mod ClashLemmas

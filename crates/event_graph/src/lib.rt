@@ -1,0 +1,16 @@
+//! A graph of numbered events: the lengths of its chains, its loops, and its first clashes.
+#![tactic(auto)]
+
+mod chains;
+mod clash;
+mod clashes;
+mod events;
+mod graph;
+mod lengths;
+mod loops;
+mod rounds;
+
+pub use chains::Chains;
+pub use clash::Clash;
+pub use graph::EventGraph;
+pub use rounds::Rounds;

@@ -1,0 +1,5 @@
+pub mod Below
+pub mod Groups
+pub mod Heads
+pub mod Places
+pub mod Stored

@@ -1,0 +1,4 @@
+pub mod Members
+pub mod Scoped
+pub mod Written
+pub mod WrittenCases

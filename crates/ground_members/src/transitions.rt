@@ -1,0 +1,110 @@
+ghost use Rattle.std.specs.Prelude.{◌≡◌, IfOk};
+ghost use Rattle.std.specs.List.{AllZip};
+ghost use Rattle.rsml_meaning.specs.Words.{Each};
+ghost use Rattle.rsml_meaning.specs.Instances.{globals_of, states};
+ghost use Rattle.rsml_ground.specs.Grounded.{IsGrounded};
+ghost use Rattle.rsml_ground.specs.Numbers.{Keeps};
+ghost use Rattle.ground_members.specs.Members.{TransitionIs, AreTransitions};
+ghost use Rattle.ground_members.specs.Scoped.{TransitionIsScoped};
+ghost use Rattle.ground_members.specs.Written.{made_by, all_made_by, IsPlaced, ArePlaced};
+
+use crate::events::{event_number, event_numbers};
+use crate::targets::{child, target};
+use crate::written::{Written, written_transitions};
+use phrase_builder::{Lookup, guard};
+use rsml_ground::{Definition, GroundGuard, Phrases};
+use rsml_syntax::{List, NoMemory};
+use state_tree::Tree;
+use std::alloc::Global;
+
+/// A transition of one component from one source. A stay has no target. States, components and events are named by
+/// their places among the instances.
+#[derive(Debug, Drop)]
+pub struct GroundTransition {
+    pub component: u32,
+    pub source: u32,
+    pub target: Option<u32>,
+    pub event: u32,
+    pub guard: GroundGuard,
+    pub raises: List<u32>,
+    /// Its place in its component, counted from 1.
+    pub ordinal: u32,
+}
+
+// A transition as it is written, over numbers.
+fn transition(
+    alloc: Global,
+    lookup: &Lookup<'_, '_>,
+    definitions: &[Definition],
+    phrases: &mut Phrases,
+    written: &Written<'_, '_>,
+) -> Result<GroundTransition, NoMemory>
+    requires before { IsGrounded (record { spec = lookup.now; phrases = phrases.old; definitions = definitions.now }) }
+    requires placed { IsPlaced (states lookup.now) written.now.owner }
+    requires scoped { TransitionIsScoped lookup.now (made_by (globals_of lookup.now) written.now) }
+    ensures after { IsGrounded (record { spec = lookup.now; phrases = phrases.new; definitions = definitions.now }) }
+    ensures kept { Keeps phrases.old phrases.new }
+    ensures is { IfOk result (λ x. TransitionIs phrases.new lookup.now (made_by (globals_of lookup.now) written.now) x) }
+{
+    let owner = written.owner;
+    let transition = written.transition;
+    let guard = guard(
+        alloc,
+        lookup,
+        definitions,
+        phrases,
+        owner.this,
+        &transition.guard,
+    )?;
+    let raises = event_numbers(alloc, lookup, owner.this, transition.raises.as_slice())?;
+    Ok(GroundTransition {
+        component: owner.component,
+        source: child(lookup, owner.node, written.source),
+        target: target(lookup, owner.node, transition.target.as_ref()),
+        event: event_number(lookup, owner.this, &transition.trigger),
+        guard,
+        raises,
+        ordinal: written.ordinal,
+    })
+}
+
+// The transitions as they are written, over numbers.
+fn transitions_from(
+    alloc: Global,
+    lookup: &Lookup<'_, '_>,
+    definitions: &[Definition],
+    phrases: &mut Phrases,
+    written: &[Written<'_, '_>],
+) -> Result<Vec<GroundTransition>, NoMemory>
+    requires before { IsGrounded (record { spec = lookup.now; phrases = phrases.old; definitions = definitions.now }) }
+    requires placed { ArePlaced (states lookup.now) written.now }
+    requires scoped { Each (TransitionIsScoped lookup.now) (all_made_by (globals_of lookup.now) written.now) }
+    ensures after { IsGrounded (record { spec = lookup.now; phrases = phrases.new; definitions = definitions.now }) }
+    ensures kept { Keeps phrases.old phrases.new }
+    ensures are { IfOk result (λ ts. AllZip (TransitionIs phrases.new lookup.now)
+        (all_made_by (globals_of lookup.now) written.now) ts.items) }
+{
+    let mut transitions = Vec::new(alloc);
+    for one in written {
+        transitions.push(transition(alloc, lookup, definitions, phrases, one)?)?;
+    }
+    Ok(transitions)
+}
+
+/// The transitions of a specification, over numbers, in order. Phrases that their guards need are added.
+pub fn ground_transitions(
+    alloc: Global,
+    lookup: &Lookup<'_, '_>,
+    tree: &Tree<'_>,
+    definitions: &[Definition],
+    phrases: &mut Phrases,
+) -> Result<Vec<GroundTransition>, NoMemory>
+    requires before { IsGrounded (record { spec = lookup.now; phrases = phrases.old; definitions = definitions.now }) }
+    requires tree { tree.now ≡ lookup.now }
+    ensures after { IsGrounded (record { spec = lookup.now; phrases = phrases.new; definitions = definitions.now }) }
+    ensures kept { Keeps phrases.old phrases.new }
+    ensures are { IfOk result (λ ts. AreTransitions phrases.new lookup.now ts.items) }
+{
+    let written = written_transitions(alloc, tree)?;
+    transitions_from(alloc, lookup, definitions, phrases, written.as_slice())
+}

@@ -1,0 +1,174 @@
+ghost use Rattle.std.specs.Prelude.{◌≡◌, ◌+◌, ◌<◌, ◌++◌, IfOk, OnOk, find, flat_map, length, map};
+ghost use Rattle.std.specs.Option.{option_copied};
+ghost use Rattle.rsml_syntax.specs.rules.Globals.{Globals};
+ghost use Rattle.rsml_syntax.specs.text.Names.{same};
+ghost use Rattle.rsml_meaning.specs.Words.{numbered};
+ghost use Rattle.rsml_meaning.specs.Instances.{states, components};
+ghost use Rattle.rsml_meaning.specs.Transitions as spec;
+ghost use Rattle.ground_members.specs.Written.{made_from, made_at, all_made_by, of_state, ArePlaced, Adds};
+
+use rsml_names::{buses_of, transitions_of};
+use rsml_syntax::{Bus, NoMemory, Text, Transition};
+use state_tree::{StepRef, Tree};
+use std::alloc::Global;
+
+/// The component that transitions belong to: its numbers among the components and among the states, its path, and the
+/// index of the innermost array on it.
+#[derive(Clone, Copy)]
+pub struct Owner<'a, 't> {
+    pub component: u32,
+    pub node: u32,
+    pub path: &'t [StepRef<'a>],
+    pub this: u8,
+}
+
+/// A transition of one component from one source, as it is written.
+#[derive(Clone, Copy)]
+pub struct Written<'a, 't> {
+    pub owner: Owner<'a, 't>,
+    pub ordinal: u32,
+    pub source: &'a Text,
+    pub transition: &'a Transition,
+}
+
+/// The number of a place, counted from 1.
+pub fn ordinal_of(place: usize) -> Result<u32, NoMemory>
+    ensures { IfOk result (λ n. n ≡ place + 1) }
+{
+    if place >= u32::MAX as usize {
+        return Err(NoMemory);
+    }
+    Ok(place as u32 + 1)
+}
+
+// The index of the innermost array state on a path, 0 where there is none.
+fn innermost(path: &[StepRef<'_>]) -> u8
+    ensures { result ≡ spec.innermost path.now }
+{
+    let mut index = 0;
+    for step in path {
+        if step.index != 0 {
+            index = step.index;
+        }
+    }
+    index
+}
+
+// The bus of a name, if there is one.
+fn bus_named<'a>(buses: &'a [Bus], name: &Text) -> Option<&'a Bus>
+    ensures { option_copied result ≡ find (λ b. same name.now b.name) buses.now }
+{
+    buses.iter().find(|bus| name.bytes() == bus.name.bytes())
+}
+
+// Adds a transition once for each of these sources.
+#[tactic(auto, using(crate::proofs::Adding::all_sources))]
+fn add_sources<'a, 't>(
+    written: &mut Vec<Written<'a, 't>>,
+    owner: Owner<'a, 't>,
+    ordinal: u32,
+    transition: &'a Transition,
+    sources: &'a [Text],
+) -> Result<(), NoMemory>
+    ensures { OnOk result (Adds owner.entry
+        (λ g. map (made_from g owner.entry.path.now ordinal transition.now) sources.now)
+        written.old.items written.new.items) }
+{
+    for source in sources {
+        written.push(Written {
+            owner,
+            ordinal,
+            source,
+            transition,
+        })?;
+    }
+    Ok(())
+}
+
+// Adds a transition for each source that it names: the members of a bus, or the one child.
+fn add_transition<'a, 't>(
+    written: &mut Vec<Written<'a, 't>>,
+    owner: Owner<'a, 't>,
+    ordinal: u32,
+    buses: &'a [Bus],
+    transition: &'a Transition,
+) -> Result<(), NoMemory>
+    ensures { OnOk result (Adds owner.entry
+        (λ g. made_at g owner.entry.path.now buses.now (ordinal, transition.now))
+        written.old.items written.new.items) }
+{
+    match bus_named(buses, &transition.source) {
+        Some(bus) => add_sources(written, owner, ordinal, transition, bus.members.as_slice()),
+        None => {
+            written.push(Written {
+                owner,
+                ordinal,
+                source: &transition.source,
+                transition,
+            })?;
+            Ok(())
+        }
+    }
+}
+
+// Adds the transitions of a component.
+fn add_component<'a, 't>(
+    written: &mut Vec<Written<'a, 't>>,
+    owner: Owner<'a, 't>,
+    buses: &'a [Bus],
+    transitions: &'a [Transition],
+) -> Result<(), NoMemory>
+    ensures { OnOk result (Adds owner.entry
+        (λ g. flat_map (made_at g owner.entry.path.now buses.now) (numbered transitions.now))
+        written.old.items written.new.items) }
+{
+    for (place, transition) in transitions.iter().enumerate() {
+        let ordinal = ordinal_of(place)?;
+        add_transition(written, owner, ordinal, buses, transition)?;
+    }
+    Ok(())
+}
+
+// Adds the transitions of a state, where it is a component.
+#[tactic(auto, using(crate::proofs::Adding::none_made, crate::proofs::Adding::state_made, crate::proofs::Adding::state_placed))]
+fn add_state<'a, 't>(
+    written: &mut Vec<Written<'a, 't>>,
+    tree: &'t Tree<'a>,
+    node: u32,
+) -> Result<(), NoMemory>
+    requires { node < length (states tree.now) }
+    ensures made { OnOk result ((g : Globals) →
+        all_made_by g written.new.items ≡ all_made_by g written.old.items ++ of_state g tree.now node) }
+    ensures placed { OnOk result (ArePlaced (states tree.now) written.old.items
+        → ArePlaced (states tree.now) written.new.items) }
+{
+    let nodes = tree.states();
+    let Some(component) = nodes.component_of(node) else {
+        return Ok(());
+    };
+    let path = nodes.path(node).unwrap();
+    let body = nodes.body(node).unwrap();
+    let owner = Owner {
+        component,
+        node,
+        path,
+        this: innermost(path),
+    };
+    add_component(written, owner, buses_of(body), transitions_of(body))
+}
+
+/// The transitions of all components, as they are written.
+pub fn written_transitions<'a, 't>(
+    alloc: Global,
+    tree: &'t Tree<'a>,
+) -> Result<Vec<Written<'a, 't>>, NoMemory>
+    ensures made { IfOk result (λ v. (g : Globals) → all_made_by g v.items
+        ≡ flat_map (spec.transitions_of g) (components tree.now)) }
+    ensures placed { IfOk result (λ v. ArePlaced (states tree.now) v.items) }
+{
+    let mut written = Vec::new(alloc);
+    for node in 0..tree.nodes() {
+        add_state(&mut written, tree, node)?;
+    }
+    Ok(written)
+}

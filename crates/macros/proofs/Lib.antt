@@ -1,0 +1,9 @@
+pub mod NoState
+pub mod Alike
+pub mod Below
+pub mod Filling
+pub mod Learning
+pub mod Marks
+pub mod SmallCells
+pub mod Values
+mod Means

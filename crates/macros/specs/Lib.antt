@@ -1,0 +1,4 @@
+pub mod Guards
+pub mod Known
+pub mod Named
+pub mod Tables

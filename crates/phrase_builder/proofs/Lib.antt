@@ -1,0 +1,10 @@
+pub mod Cases
+pub mod Declared
+pub mod Fitting
+pub mod Growing
+pub mod Lists
+pub mod Numbers
+pub mod Operands
+pub mod Placed
+pub mod Standing
+pub mod Totals

@@ -1,0 +1,13 @@
+use Rattle.std.proofs.Common.{length, take}
+use Rattle.std.specs.List.{AllZip}
+use Rattle.rsml_meaning.specs.Cells.{cells}
+use Rattle.rsml_meaning.specs.Truth.{within}
+use Rattle.rsml_ground.specs.StandsFor.{RowIs}
+use Rattle.phrase_builder.specs.Grown.{Grew}
+use Rattle.phrase_builder.proofs.tables.ground_rows.Given as goal
+
+abbrev pub invariant-loop-row : goal.invariant-loop-row
+invariant-loop-row l = record {
+  grew : Grew (length (cells l.site.lookup.now)) l.site.definitions.now l.fn.phrases l.phrases;
+  are : AllZip (RowIs l.phrases l.site.lookup.now (within l.site.this)) (take l.row-index l.rows) l.found;
+}

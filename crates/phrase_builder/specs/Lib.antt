@@ -1,0 +1,3 @@
+pub mod Constants
+pub mod Grown
+pub mod Sources

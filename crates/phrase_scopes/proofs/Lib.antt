@@ -1,0 +1,15 @@
+pub mod Declared
+pub mod Definitions
+pub mod Earlier
+pub mod Found
+pub mod Guards
+pub mod Operands
+pub mod Owners
+pub mod Paths
+pub mod Phrases
+pub mod Reading
+pub mod Receives
+pub mod Sends
+pub mod Transitions
+pub mod Values
+pub mod Written

@@ -1,0 +1,18 @@
+//! Ground phrases: the tables, cases and sums of a specification over numbers of phrases and cells, what they
+//! say in a world, and when they stand for those of the text.
+#![tactic(auto)]
+
+mod definitions;
+mod laws;
+mod numbered;
+mod phrases;
+mod sums;
+
+pub use definitions::{Definition, GroundCase, GroundGuard};
+pub use laws::{
+    functions_mean_the_text, guards_mean_the_text, phrases_mean_the_text, sums_mean_the_text,
+    truths_are_of_phrases,
+};
+pub use numbered::Phrases;
+pub use phrases::GroundPhrase;
+pub use sums::{GroundOperand, GroundSum, GroundTerm};

@@ -1,0 +1,14 @@
+pub mod Cells
+pub mod Children
+pub mod Components
+pub mod Declared
+pub mod Earlier
+pub mod Mentions
+pub mod Names
+pub mod Order
+pub mod Receives
+pub mod Scoped
+pub mod Sends
+pub mod Sizes
+pub mod States
+pub mod Used
