@@ -37,6 +37,20 @@ impl<'g> Rounds<'g> {
         }
     }
 
+    /// An event with those of a set.
+    pub(crate) fn over(graph: &'g EventGraph, event: u32, set: &Events) -> Rounds<'g>
+        requires event { event < graph.now.count }
+        requires set { (q : ℕ) → has set.now q ≡ true → q < graph.now.count }
+        ensures graph { result.graph ≡ graph.now }
+        ensures first { has result.ends event ≡ true }
+        ensures set { (q : ℕ) → has set.now q ≡ true → has result.ends q ≡ true }
+    {
+        let _ = graph.count();
+        let mut ends = *set;
+        ends.put(event as usize);
+        Rounds { graph, ends }
+    }
+
     /// The first round of an event.
     pub fn first(&mut self, event: u32)
         requires { event < self.old.graph.count }

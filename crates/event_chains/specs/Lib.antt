@@ -1,0 +1,5 @@
+pub mod Draws
+pub mod Found
+pub mod Laws
+pub mod Reactions
+pub mod Rounds
