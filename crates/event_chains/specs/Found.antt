@@ -1,10 +1,10 @@
 -- What is found of the chains of a specification, over numbers of events.
-use Rattle.std.specs.Prelude.{◌≡◌, ℕ, Bool, List, length, flat_map, Option, Some, None, IsTrue, ◌↔◌, ⊤}
+use Rattle.std.specs.Prelude.{◌≡◌, ℕ, Bool, true, false, List, length, flat_map, Option, Some, None, IsTrue, ◌↔◌, ⊤}
 use Rattle.std.specs.List.{AllZip, items_where_true, range_with_len}
 use Rattle.rsml_syntax.specs.declared.syntax.Spec.{Spec}
 use Rattle.rsml_meaning.specs.Words.{Instance}
 use Rattle.rsml_meaning.specs.Instances.{events}
-use Rattle.rsml_meaning.specs.Chains.{Loops}
+use Rattle.rsml_meaning.specs.Chains.{is_external, Loops}
 use Rattle.rsml_meaning.specs.Report.{ClashFound, externals, IsLengthAnswer, IsClashAnswer}
 use Rattle.ground_members.specs.Members.{IsEvent}
 use Rattle.event_graph.specs.declared.clash.Clash.{Clash}
@@ -45,6 +45,11 @@ pub record ExternalIs (s : Spec) (x : Instance) (r : External) : Type 0 where
   pub event : IsEvent s x r.event
   pub length : IsLengthAnswer s x r.length
   pub clash : IsFirst s x r.clash
+
+-- what is found of an external event, and none of another
+abbrev pub Shows : Spec → Instance → Option External → Type 0
+Shows s e None = is_external s e ≡ false
+Shows s e (Some r) = (is_external s e ≡ true) × ExternalIs s e r
 
 -- the external events, in order
 abbrev pub AreExternals : Spec → List External → Type 0

@@ -129,3 +129,7 @@ on_below g is a b (e ∷ f ∷ es) h k = on_below g is e b (f ∷ es) (second_so
 -- the set of an event is of events of the graph
 pub set_below : (g : Graph) → IsGraph g → (sets : List Events) → AreReached g sets → (x q : ℕ) → has_at sets x q ≡ true → q < g.count
 set_below g is sets r x q h = let on = r.only x q h in on_below g is x q on.0 on.1 on.2
+
+-- what ends a chain from an event of the graph is an event of the graph
+pub ends_below : (g : Graph) → IsGraph g → (x n e : ℕ) → x < g.count → Ends g x n e → e < g.count
+ends_below g is x n e l h = ⊎_elim (λ q. subst (λ z. z < g.count) q l) (λ on. on_below g is x e on.0 on.1 on.2) (ends_reached g x n e h)

@@ -1,7 +1,7 @@
 ghost use Rattle.std.specs.Prelude.{◌≡◌, ◌≢◌, ℕ, ◌+◌, ◌<◌, ◌≤◌, true, false, None, IfSome};
 ghost use Rattle.event_graph.specs.Graphs.{leads};
 ghost use Rattle.event_graph.specs.Sets.{has};
-ghost use Rattle.event_graph.specs.Rounds.{IsRound, AreMeeting, AreFirstMeeting};
+ghost use Rattle.event_graph.specs.Rounds.{IsRound, IsWithin, AreMeeting, AreFirstMeeting};
 
 use crate::events::Events;
 use crate::graph::EventGraph;
@@ -70,6 +70,14 @@ impl<'g> Rounds<'g> {
     {
         let _ = self.graph.count();
         self.ends = followers(self.graph, &self.ends);
+    }
+
+    /// The graph.
+    pub fn graph(&self) -> &'g EventGraph
+        ensures graph { result.now ≡ self.now.graph }
+        ensures within { IsWithin self.now }
+    {
+        self.graph
     }
 
     /// Whether an event ends a chain of this round.
