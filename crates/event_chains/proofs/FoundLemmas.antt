@@ -1,6 +1,7 @@
 -- What is found, in lists.
 use Rattle.std.proofs.Common.{◌≡◌, ℕ, zero, suc, ◌+◌, ◌<◌, ◌≤◌, Bool, true, false, cond, ◌&&◌, List, [], ◌∷◌, ◌++◌, map, flat_map, filter, take, length, Option, Some, None, unwrap_or, slice_get, IsTrue, ◌↔◌, refl, sym, ap, ◌∙◌, subst, ⊎_elim, true≢false, arith}
 use Rattle.std.specs.List.{AllZip, items_where_true, range_with_len}
+use Rattle.std.specs.Option.{option_to_list}
 use Rattle.std.specs.Cmp.{first_so, second_so}
 use Rattle.std.proofs.lemmas.List.{append-nil}
 use Rattle.std.proofs.lemmas.List.FromFn.{length-range_with_len}
@@ -115,16 +116,21 @@ grown t (y ∷ ys) (suc k) x h = by_test (t y) (grown t ys k x h)
 abbrev pub AreShown : Spec → ℕ → List External → Type 0
 AreShown s k rs = AllZip (ExternalIs s) (filter (is_external s) (take k (events s))) rs
 
-pub shown_none : (s : Spec) (k : ℕ) (e : Instance) (rs : List External) → IsEvent s e k → AreShown s k rs → Shows s e None → AreShown s (suc k) rs
+shown_none : (s : Spec) (k : ℕ) (e : Instance) (rs : List External) → IsEvent s e k → AreShown s k rs → Shows s e None → AreShown s (suc k) rs
 shown_none s k e rs h are other =
     subst (λ es. AllZip (ExternalIs s) es rs)
     (sym (grown (is_external s) (events s) k e h ∙ ap (λ b. filter (is_external s) (take k (events s)) ++ cond b (e ∷ []) []) other ∙ append-nil (filter (is_external s) (take k (events s))))) are
 
-pub shown_more : (s : Spec) (k : ℕ) (e : Instance) (rs : List External) (r : External) → IsEvent s e k → AreShown s k rs → Shows s e (Some r) → AreShown s (suc k) (rs ++ r ∷ [])
+shown_more : (s : Spec) (k : ℕ) (e : Instance) (rs : List External) (r : External) → IsEvent s e k → AreShown s k rs → Shows s e (Some r) → AreShown s (suc k) (rs ++ r ∷ [])
 shown_more s k e rs r h are is =
     subst (λ es. AllZip (ExternalIs s) es (rs ++ r ∷ []))
     (sym (grown (is_external s) (events s) k e h ∙ ap (λ b. filter (is_external s) (take k (events s)) ++ cond b (e ∷ []) []) is.0))
     (zip_push (ExternalIs s) (filter (is_external s) (take k (events s))) rs e r are is.1)
+
+-- one event more
+pub shown_turn : (s : Spec) (k : ℕ) (e : Instance) (old new : List External) (o : Option External) → IsEvent s e k → AreShown s k old → Shows s e o → new ≡ old ++ option_to_list o → AreShown s (suc k) new
+shown_turn s k e old new None h are is m = subst (AreShown s (suc k)) (sym (m ∙ append-nil old)) (shown_none s k e old h are is)
+shown_turn s k e old new (Some r) h are is m = subst (AreShown s (suc k)) (sym m) (shown_more s k e old r h are is)
 
 -- Where none is found.
 

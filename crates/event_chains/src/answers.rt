@@ -1,5 +1,6 @@
 //! What is found of the external events.
-ghost use Rattle.std.specs.Prelude.{◌≡◌, ◌<◌, IfOk};
+ghost use Rattle.std.specs.Prelude.{◌≡◌, ◌<◌, ◌++◌, IfOk, OnOk};
+ghost use Rattle.std.specs.Option.{option_to_list};
 ghost use Rattle.rsml_meaning.specs.Words.{Instance};
 ghost use Rattle.ground_members.specs.Members.{IsEvent};
 ghost use Rattle.event_chains.specs.Draws.{Draws};
@@ -21,9 +22,7 @@ pub fn externals(
 {
     let mut rows = Vec::new(alloc);
     for event in 0..chains.graph().count() {
-        if let Some(row) = external(checked, chains, event) {
-            rows.push(row)?;
-        }
+        push_any(&mut rows, external(checked, chains, event))?;
     }
     Ok(rows)
 }
@@ -43,4 +42,14 @@ fn external(checked: &Checked, chains: &Chains, event: u32) -> Option<External>
         length: chains.length(event),
         clash: chains.clash(event),
     })
+}
+
+// Puts a row at the end, if there is one.
+fn push_any(rows: &mut Vec<External>, row: Option<External>) -> Result<(), NoMemory>
+    ensures { OnOk result (rows.new.items ≡ rows.old.items ++ option_to_list row) }
+{
+    if let Some(row) = row {
+        rows.push(row)?;
+    }
+    Ok(())
 }
