@@ -40,7 +40,10 @@ fn show<R: Clock + Print + AllocGlobal>(rt: &R, word: &str, timed: bool) -> io::
         return println!(rt; "{word} out of memory");
     };
     let micros = start.elapsed(rt)?.as_micros();
-    print!(rt; "{word} loops {} clashes {}", outcome.loops, outcome.clashes)?;
+    print!(rt;
+        "{word} loops {} clashes {}",
+        outcome.loops, outcome.clashes
+    )?;
     if timed {
         print!(rt; " microseconds {micros}")?;
     }

@@ -1,5 +1,5 @@
 -- Chains of events and chains of their numbers.
-use Rattle.std.proofs.Common.{◌≡◌, ℕ, suc, ◌<◌, ◌≤◌, ◌==◌, Bool, true, false, not, cond, ◌&&◌, List, [], ◌∷◌, length, filter, Option, Some, None, IsTrue, slice_get, refl, sym, ap, ◌∙◌, subst, true≢false, arith}
+use Rattle.std.proofs.Common.{◌≡◌, ℕ, suc, ◌<◌, ◌≤◌, ◌==◌, Bool, true, false, not, cond, ◌&&◌, List, [], ◌∷◌, length, filter, Option, Some, None, slice_get, refl, sym, ap, ◌∙◌, subst, true≢false, arith}
 use Rattle.std.specs.List.{AllZip}
 use Rattle.std.specs.Cmp.{nat_eq_equiv, first_so, second_so}
 use Rattle.std.proofs.lemmas.Bool.{eqb-true}
@@ -17,7 +17,7 @@ use Rattle.event_graph.specs.Graphs.{Graph, starts}
 use Rattle.event_graph.specs.Graphs as graph
 use Rattle.event_graph.specs.Chains as by_number
 use Rattle.event_graph.proofs.LengthLemmas.{goes_from, leads_below}
-use Rattle.event_chains.specs.Draws.{Draws, meet}
+use Rattle.event_chains.specs.Draws.{Draws}
 use Rattle.event_chains.proofs.Numbers.{same_event, event_there, raised_event, external_event}
 
 module _ (s : Spec) (g : Graph) (checked : IsChecked s) (d : Draws s g) where

@@ -1,16 +1,16 @@
 -- A graph that is told all stands for the specification.
-use Rattle.std.proofs.Common.{◌≡◌, ℕ, ◌<◌, ◌==◌, Bool, false, ◌&&◌, ◌||◌, List, [], ◌∷◌, map, length, sym, ap, ◌∙◌, subst, arith}
+use Rattle.std.proofs.Common.{◌≡◌, ℕ, ◌<◌, ◌==◌, ◌&&◌, ◌||◌, List, [], ◌∷◌, map, length, ap, ◌∙◌, arith}
 use Rattle.std.specs.List.{AllZip, list_any}
 use Rattle.rsml_syntax.specs.declared.syntax.Spec.{Spec}
 use Rattle.rsml_syntax.specs.limits.Checked.{IsChecked}
-use Rattle.rsml_meaning.specs.Words.{Instance, Path, Each}
-use Rattle.rsml_meaning.specs.Instances.{State, states, events}
-use Rattle.rsml_meaning.specs.Transitions.{TransitionInstance, transitions}
-use Rattle.rsml_meaning.specs.Interfaces.{SendCaseInstance, send_cases}
-use Rattle.rsml_meaning.specs.Chains.{is_external, leads, meet_on_a_line, meet_in_a_send}
+use Rattle.rsml_meaning.specs.Words.{Instance, Each}
+use Rattle.rsml_meaning.specs.Instances.{states, events}
+use Rattle.rsml_meaning.specs.Transitions.{TransitionInstance}
+use Rattle.rsml_meaning.specs.Interfaces.{SendCaseInstance}
+use Rattle.rsml_meaning.specs.Chains.{is_external}
 use Rattle.rsml_ground.specs.declared.phrases.GroundPhrase.{GroundPhrase}
 use Rattle.state_tree.proofs.Lists.{get_within}
-use Rattle.ground_members.specs.Members.{IsEvent, IsState, TransitionIs, AreTransitions, SendCaseIs, AreSendCases}
+use Rattle.ground_members.specs.Members.{IsEvent, TransitionIs, AreTransitions, SendCaseIs, AreSendCases}
 use Rattle.ground_members.specs.declared.transitions.GroundTransition.{GroundTransition}
 use Rattle.ground_members.specs.declared.send_cases.GroundSendCase.{GroundSendCase}
 use Rattle.event_graph.specs.Graphs.{Graph, starts, meets, IsBare, IsGraph}

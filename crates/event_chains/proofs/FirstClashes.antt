@@ -1,15 +1,15 @@
 -- First clashes: the order of clashes is that of their numbers.
-use Rattle.std.proofs.Common.{◌≡◌, ℕ, ◌<◌, ◌≤◌, true, List, [], ◌∷◌, length, Option, Some, None, ◌⊎◌, inl, inr, ⊎_elim, slice_get, refl, sym, ap, ◌∙◌, subst, arith}
+use Rattle.std.proofs.Common.{◌≡◌, ℕ, ◌<◌, ◌≤◌, true, [], ◌∷◌, Option, Some, None, ◌⊎◌, inl, inr, ⊎_elim, slice_get, refl, sym, ap, ◌∙◌, subst, arith}
 use Rattle.std.specs.Ordering.{ordering_then, nat_cmp}
 use Rattle.std.specs.Cmp.Lexicographic.{slice_cmp}
 use Rattle.std.specs.declared.cmp.Ordering.{Ordering}
 use Rattle.std.specs.declared.cmp.Ordering.TheVariants.{Less, Equal, Greater}
 use Rattle.rsml_syntax.specs.declared.syntax.Spec.{Spec}
 use Rattle.rsml_syntax.specs.limits.Checked.{IsChecked}
-use Rattle.rsml_meaning.specs.Words.{Instance, IsOne, same_instance, has}
+use Rattle.rsml_meaning.specs.Words.{Instance, same_instance, has}
 use Rattle.rsml_meaning.specs.Instances.{events}
-use Rattle.rsml_meaning.specs.Chains.{is_external, Clash}
-use Rattle.rsml_meaning.specs.Report.{ClashFound, event_place, rank, IsClash, IsFirstClash, IsClashAnswer}
+use Rattle.rsml_meaning.specs.Chains.{is_external}
+use Rattle.rsml_meaning.specs.Report.{ClashFound, IsFirstClash}
 use Rattle.rsml_meaning.proofs.Same.{instance_itself}
 use Rattle.rsml_scopes.proofs.Lists.{any_one}
 use Rattle.state_tree.proofs.Lists.{one_at, within_get}
@@ -20,7 +20,7 @@ use Rattle.event_graph.specs.Chains as by_number
 use Rattle.event_graph.specs.Clashes as by_clash
 use Rattle.event_graph.proofs.ClashLemmas.{ends_below}
 use Rattle.event_chains.specs.Draws.{Draws}
-use Rattle.event_chains.specs.Found.{ClashIs, AnswerIs, IsFirst}
+use Rattle.event_chains.specs.Found.{ClashIs, IsFirst}
 use Rattle.event_chains.proofs.Numbers.{event_there, declared_event, place_of_event}
 use Rattle.event_chains.proofs.ChainLemmas.{event_below, clash_there, clash_back, length_agrees, length_back}
 

@@ -1,5 +1,5 @@
 -- What is found, in lists.
-use Rattle.std.proofs.Common.{◌≡◌, ℕ, zero, suc, ◌+◌, ◌<◌, ◌≤◌, Bool, true, false, cond, ◌&&◌, List, [], ◌∷◌, ◌++◌, map, flat_map, filter, take, length, Option, Some, None, unwrap_or, slice_get, IsTrue, ◌↔◌, refl, sym, ap, ◌∙◌, subst, ⊎_elim, true≢false, arith}
+use Rattle.std.proofs.Common.{◌≡◌, ℕ, zero, suc, ◌+◌, ◌≤◌, Bool, true, false, cond, List, [], ◌∷◌, ◌++◌, map, flat_map, filter, take, length, Option, Some, None, unwrap_or, slice_get, IsTrue, ◌↔◌, refl, sym, ap, ◌∙◌, subst, ⊎_elim, true≢false, arith}
 use Rattle.std.specs.List.{AllZip, items_where_true, range_with_len}
 use Rattle.std.specs.Option.{option_to_list}
 use Rattle.std.specs.Cmp.{first_so, second_so}
@@ -10,25 +10,24 @@ use Rattle.rsml_syntax.specs.declared.syntax.Spec.{Spec}
 use Rattle.rsml_syntax.specs.limits.Checked.{IsChecked}
 use Rattle.rsml_meaning.specs.Words.{Instance, Each, IsOne, AllThree, same_instance, has}
 use Rattle.rsml_meaning.specs.Instances.{events}
-use Rattle.rsml_meaning.specs.Chains.{is_external, leads, linked, is_chain, begins_with, ends_with, IsChainFrom, HasLength, Endless, Ends, Loops, Clash}
-use Rattle.rsml_meaning.specs.Report.{ClashFound, externals, IsLengthAnswer, IsClash, IsClashAnswer}
+use Rattle.rsml_meaning.specs.Chains.{is_external, leads, linked, is_chain, begins_with, ends_with, IsChainFrom, HasLength, Ends, Loops, Clash}
+use Rattle.rsml_meaning.specs.Report.{ClashFound, externals, IsLengthAnswer, IsClashAnswer}
 use Rattle.rsml_meaning.proofs.Same.{instance_same, instance_itself}
 use Rattle.rsml_meaning.proofs.Ways.{length_or_endless}
 use Rattle.rsml_scopes.proofs.Lists.{each_one, any_one, one_filter}
-use Rattle.state_tree.proofs.Lists.{get_within, as_long, zip_push, not_true}
+use Rattle.state_tree.proofs.Lists.{zip_push}
 use Rattle.ground_members.specs.Members.{IsEvent}
 use Rattle.event_graph.specs.declared.clash.Clash.{Clash as Numbers}
-use Rattle.event_graph.specs.Graphs.{Graph, starts}
-use Rattle.event_graph.specs.Chains as by_number
+use Rattle.event_graph.specs.Graphs.{Graph}
 use Rattle.event_graph.specs.Reached as by_loop
 use Rattle.event_graph.specs.Clashes.{clash_at, if_any}
 use Rattle.event_graph.specs.Clashes as by_clash
 use Rattle.event_chains.specs.declared.external.External.{External}
 use Rattle.event_chains.specs.Draws.{Draws}
-use Rattle.event_chains.specs.Found.{AreLooping, AreLoopAnswers, ClashIs, AnswerIs, IsFirst, AreClashes, ExternalIs, AreExternals, Shows}
+use Rattle.event_chains.specs.Found.{AreLooping, AnswerIs, IsFirst, AreClashes, ExternalIs, AreExternals, Shows}
 use Rattle.event_chains.specs.Laws.{NoneFound}
 use Rattle.event_chains.proofs.Numbers.{raised_event, external_event}
-use Rattle.event_chains.proofs.ChainLemmas.{event_below, loops_there, loops_back}
+use Rattle.event_chains.proofs.ChainLemmas.{loops_there, loops_back}
 use Rattle.event_chains.proofs.FirstClashes.{answer_agrees}
 
 -- Lists.

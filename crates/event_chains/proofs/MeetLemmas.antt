@@ -1,29 +1,22 @@
 -- What is told of a graph is what the specification says.
-use Rattle.std.proofs.Common.{◌≡◌, ℕ, ◌<◌, ◌≤◌, ◌==◌, Bool, true, false, ◌&&◌, ◌||◌, List, [], ◌∷◌, map, length, Option, Some, None, inl, inr, slice_get, refl, sym, ap, ◌∙◌, subst, true≢false, arith}
-use Rattle.std.specs.List.{AllZip, list_any}
+use Rattle.std.proofs.Common.{◌≡◌, ℕ, ◌<◌, ◌==◌, Bool, true, false, ◌&&◌, ◌||◌, List, [], ◌∷◌, map, length, Option, Some, None, slice_get, refl, sym, ap, ◌∙◌, true≢false}
+use Rattle.std.specs.List.{list_any}
 use Rattle.std.specs.Option.{option_map}
-use Rattle.std.proofs.lemmas.Bool.{eqb-true}
-use Rattle.std.specs.Cmp.{nat_eq_equiv, first_so, second_so}
 use Rattle.rsml_syntax.specs.declared.syntax.Spec.{Spec}
 use Rattle.rsml_syntax.specs.limits.Checked.{IsChecked}
-use Rattle.rsml_meaning.specs.Words.{Instance, Path, Each, IsOne, same_instance, has, on_one_line}
-use Rattle.rsml_meaning.specs.Instances.{State, states, events}
+use Rattle.rsml_meaning.specs.Words.{Instance, Path, same_instance, has, on_one_line}
+use Rattle.rsml_meaning.specs.Instances.{State, states}
 use Rattle.rsml_meaning.specs.Transitions.{TransitionInstance, transitions, is_on}
 use Rattle.rsml_meaning.specs.Interfaces.{SendCaseInstance, send_cases, is_case}
 use Rattle.rsml_meaning.specs.Chains.{leads, meet_on_a_line, meet_in_a_send}
-use Rattle.rsml_scopes.proofs.Lists.{both, same_truth, each_one, any_one, any_some}
 use Rattle.rsml_ground.specs.declared.phrases.GroundPhrase.{GroundPhrase}
 use Rattle.state_tree.specs.Numbers.{path_of}
 use Rattle.state_tree.proofs.Lists.{get_within, get_map}
 use Rattle.state_tree.proofs.Walks.{path_is}
-use Rattle.state_arrays.specs.Places.{path_at}
 use Rattle.ground_members.specs.Members.{IsEvent, IsState, TransitionIs, AreTransitions, SendCaseIs, AreSendCases}
 use Rattle.ground_members.specs.declared.transitions.GroundTransition.{GroundTransition}
 use Rattle.ground_members.specs.declared.send_cases.GroundSendCase.{GroundSendCase}
-use Rattle.event_graph.specs.declared.events.Events.{Events}
-use Rattle.event_graph.specs.Sets.{has_at}
-use Rattle.event_chains.specs.declared.reaction.Reaction.{Reaction}
-use Rattle.event_chains.specs.Reactions.{leads_by, source_of, send_of, AreBelow, reacts, reacts_on_line, meet_by}
+use Rattle.event_chains.specs.Reactions.{leads_by, source_of, send_of, reacts, reacts_on_line}
 use Rattle.event_chains.proofs.Numbers.{any_zip, same_event, event_same, same_send}
 
 -- Lists.

@@ -1,12 +1,12 @@
 -- Events and sends by their numbers.
-use Rattle.std.proofs.Common.{◌≡◌, ℕ, zero, suc, ◌+◌, ◌<◌, ◌==◌, Bool, true, false, cond, ◌||◌, ◌&&◌, List, [], ◌∷◌, length, Option, Some, unwrap_or, slice_get, refl, sym, ap, ◌∙◌, subst, true≢false, arith}
+use Rattle.std.proofs.Common.{◌≡◌, ℕ, zero, suc, ◌+◌, ◌==◌, Bool, true, false, cond, ◌||◌, ◌&&◌, List, [], ◌∷◌, Some, unwrap_or, slice_get, refl, sym, ap, ◌∙◌, subst, true≢false}
 use Rattle.std.specs.List.{AllZip, list_any, position_from}
-use Rattle.std.specs.Cmp.{nat_eq_equiv, first_so, second_so}
+use Rattle.std.specs.Cmp.{nat_eq_equiv, second_so}
 use Rattle.std.proofs.lemmas.Bool.{eqb-true}
 use Rattle.std.proofs.lemmas.Option.{same_Some}
 use Rattle.rsml_syntax.specs.declared.syntax.Spec.{Spec}
 use Rattle.rsml_syntax.specs.limits.Checked.{IsChecked}
-use Rattle.rsml_meaning.specs.Words.{Instance, Each, IsOne, same_instance, has, place_in}
+use Rattle.rsml_meaning.specs.Words.{Instance, Each, IsOne, same_instance, has}
 use Rattle.rsml_meaning.specs.Instances.{events}
 use Rattle.rsml_meaning.specs.Interfaces.{receives, sends}
 use Rattle.rsml_meaning.specs.Transitions.{transitions, is_on}

@@ -1,5 +1,5 @@
 -- Rounds of events and of their numbers.
-use Rattle.std.proofs.Common.{◌≡◌, ℕ, ◌<◌, true, length, IsTrue, ◌↔◌, sym, ap, ◌∙◌, subst, arith}
+use Rattle.std.proofs.Common.{◌≡◌, ℕ, ◌<◌, true, arith}
 use Rattle.rsml_syntax.specs.declared.syntax.Spec.{Spec}
 use Rattle.rsml_syntax.specs.limits.Checked.{IsChecked}
 use Rattle.rsml_meaning.specs.Words.{Instance}
@@ -10,7 +10,6 @@ use Rattle.ground_members.specs.Members.{IsEvent}
 use Rattle.event_graph.specs.declared.events.Events.{Events}
 use Rattle.event_graph.specs.Sets.{has}
 use Rattle.event_graph.specs.Graphs.{Graph}
-use Rattle.event_graph.specs.Chains as by_number
 use Rattle.event_graph.specs.Rounds as by_round
 use Rattle.event_graph.proofs.ClashLemmas.{ends_below}
 use Rattle.event_chains.specs.Draws.{Draws}

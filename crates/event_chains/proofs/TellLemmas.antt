@@ -1,5 +1,5 @@
 -- What is told turn by turn.
-use Rattle.std.proofs.Common.{◌≡◌, ℕ, zero, suc, ◌+◌, ◌<◌, ◌≤◌, ◌==◌, Bool, true, false, ◌&&◌, ◌||◌, List, [], ◌∷◌, ◌++◌, drop, length, get_or, Option, Some, None, slice_get, inl, inr, ⊎_elim, refl, sym, ap, ◌∙◌, subst, arith}
+use Rattle.std.proofs.Common.{◌≡◌, ℕ, zero, suc, ◌+◌, ◌<◌, ◌==◌, Bool, true, false, ◌&&◌, ◌||◌, List, [], ◌∷◌, ◌++◌, drop, length, get_or, Some, slice_get, inl, inr, ⊎_elim, refl, sym, ap, ◌∙◌, subst, arith}
 use Rattle.std.specs.List.{list_any}
 use Rattle.std.proofs.lemmas.Bool.{cases_lt, eqb-true}
 use Rattle.std.proofs.lemmas.Option.{same_Some, slice_get-get_or}
@@ -10,7 +10,7 @@ use Rattle.rsml_meaning.specs.Words.{Each, IsOne, on_one_line}
 use Rattle.rsml_meaning.specs.Instances.{states}
 use Rattle.rsml_scopes.proofs.Lists.{both, or_left, or_right, or_cases, same_truth, each_one, any_one, any_some}
 use Rattle.state_tree.specs.Numbers.{path_of}
-use Rattle.state_tree.proofs.Lists.{one_at, place_of_one, get_item}
+use Rattle.state_tree.proofs.Lists.{one_at}
 use Rattle.event_graph.specs.declared.events.Events.{Events}
 use Rattle.event_graph.specs.Sets.{has, has_at}
 use Rattle.event_graph.proofs.RowLemmas.{read_is}

@@ -1,5 +1,5 @@
 -- What is kept of chains and of rounds.
-use Rattle.std.specs.Prelude.{ℕ, List}
+use Rattle.std.specs.Prelude.{List}
 use Rattle.rsml_syntax.specs.declared.syntax.Spec.{Spec}
 use Rattle.rsml_syntax.specs.limits.Checked.{IsChecked}
 use Rattle.event_graph.specs.Graphs.{Graph}

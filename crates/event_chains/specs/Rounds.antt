@@ -1,5 +1,5 @@
 -- The events that end chains of so many events from an external one.
-use Rattle.std.specs.Prelude.{◌≡◌, ℕ, IsTrue, ◌↔◌}
+use Rattle.std.specs.Prelude.{ℕ, IsTrue, ◌↔◌}
 use Rattle.rsml_syntax.specs.declared.syntax.Spec.{Spec}
 use Rattle.rsml_meaning.specs.Words.{Instance}
 use Rattle.rsml_meaning.specs.Chains.{Ends}

@@ -111,7 +111,11 @@ fn line(tree: &Tree<'_>, sets: &[Events], node: u32) -> Events
 {
     let mut events = Events::new();
     for other in 0..tree.nodes() {
-        join_if(&mut events, &sets[other as usize], tree.on_one_line(node, other));
+        join_if(
+            &mut events,
+            &sets[other as usize],
+            tree.on_one_line(node, other),
+        );
     }
     events
 }

@@ -9,7 +9,7 @@ use Rattle.rsml_meaning.specs.Chains.{is_external}
 use Rattle.ground_members.specs.Members.{IsEvent}
 use Rattle.event_graph.specs.Graphs.{starts, meets}
 use Rattle.event_chains.specs.declared.reaction.Reaction.{Reaction}
-use Rattle.event_chains.specs.Reactions.{source_of, send_of, AreBelow, reacts, reacts_on_line}
+use Rattle.event_chains.specs.Reactions.{source_of, AreBelow, reacts, reacts_on_line}
 use Rattle.event_chains.proofs.DrawLemmas.{triggers_below, raised_below, sources_below, sends_below, drawn}
 use Rattle.event_chains.proofs.drawing.event_graph.Goals as goal
 

@@ -1,4 +1,4 @@
-use Rattle.std.proofs.Common.{◌≡◌, ◌<◌, ◌==◌, ◌&&◌, ◌||◌, [], length, get_or, ap, sym, ◌∙◌, arith}
+use Rattle.std.proofs.Common.{◌<◌, ◌==◌, ◌&&◌, ◌||◌, [], length, get_or, ap, sym, ◌∙◌, arith}
 use Rattle.event_graph.specs.declared.events.Events.{Events}
 use Rattle.event_graph.specs.Sets.{has_at}
 use Rattle.event_graph.specs.Graphs.{meets}

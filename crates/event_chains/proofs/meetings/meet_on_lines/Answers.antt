@@ -1,4 +1,4 @@
-use Rattle.std.proofs.Common.{◌≡◌, ◌<◌, ◌==◌, ◌&&◌, ◌||◌, List, length, ap, sym, ◌∙◌, arith}
+use Rattle.std.proofs.Common.{◌<◌, ◌==◌, ◌&&◌, ◌||◌, List, length, ap, sym, ◌∙◌, arith}
 use Rattle.rsml_meaning.specs.Instances.{states}
 use Rattle.rsml_scopes.proofs.Lists.{each_one, each_more}
 use Rattle.event_graph.specs.declared.events.Events.{Events}

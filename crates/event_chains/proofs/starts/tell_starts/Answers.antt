@@ -1,6 +1,6 @@
 use Rattle.std.proofs.Common.{◌≡◌, ℕ, ◌<◌, ◌||◌, length, Option, Some, IfSome, slice_get, ap, ◌∙◌, subst, arith}
 use Rattle.rsml_syntax.specs.declared.syntax.Spec.{Spec}
-use Rattle.rsml_meaning.specs.Words.{Instance, same_instance, place_in}
+use Rattle.rsml_meaning.specs.Words.{same_instance, place_in}
 use Rattle.rsml_meaning.specs.Instances.{events}
 use Rattle.rsml_meaning.specs.Interfaces.{ReceiveInstance, receives}
 use Rattle.rsml_meaning.specs.Chains.{is_external}

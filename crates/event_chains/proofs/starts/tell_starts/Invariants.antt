@@ -10,7 +10,7 @@ use Rattle.event_chains.proofs.starts.tell_starts.Given as goal
 abbrev pub invariant-loop-receive : goal.invariant-loop-receive
 invariant-loop-receive l =
     ((a : ℕ) (e : Instance) → IsEvent l.interfaces e a
-        → (starts l.graph a || list_any (λ r. same_instance r.raised e) (drop l.receive (receives l.interfaces))) ≡ (starts l.fn.graph a || is_external l.interfaces e))
+    → (starts l.graph a || list_any (λ r. same_instance r.raised e) (drop l.receive (receives l.interfaces))) ≡ (starts l.fn.graph a || is_external l.interfaces e))
     × (l.graph.count ≡ l.fn.graph.count)
     × (l.graph.ways ≡ l.fn.graph.ways)
     × (l.graph.pairs ≡ l.fn.graph.pairs)
