@@ -15,7 +15,7 @@ pub enum Shape {
     Line,
     /// Each event to all greater ones, where the first and the last meet.
     Greater,
-    /// Each event to the greater ones at odd distances, where neighbours meet.
+    /// Each event to the greater ones at odd distances, where all at odd distances meet.
     Odd,
     /// Eight chains of six events that begin with starts, where the ends of two meet.
     Typical,
