@@ -1,7 +1,7 @@
 use Rattle.std.proofs.Common.{rules, ap, ◌∙◌}
 use Rattle.event_graph.specs.Sets.{has_at}
 use Rattle.event_graph.proofs.RowLemmas.{none_in_none, none_more}
-use Rattle.event_graph.proofs.graph.no_rows.Goals as goal
+use Rattle.event_graph.proofs.sets.no_events.Goals as goal
 
 pub loop-row-init : goal.loop-row-init
 loop-row-init c = (search rules, none_in_none c.new-rows.result.items (search rules))
