@@ -1,6 +1,7 @@
 -- Pieces that are written one after another.
-use Rattle.std.proofs.Common.{◌≡◌, ℕ, ◌+◌, ◌<◌, ◌≤◌, Bool, true, false, List, [], ◌∷◌, ◌++◌, length, take, Option, Some, None, refl, sym, ap, ◌∙◌, arith, append_assoc, append-nil, length-append, subst}
-use Rattle.std.proofs.lemmas.List.{take-append-le}
+use Rattle.std.proofs.Common.{◌≡◌, ℕ, ◌+◌, ◌<◌, ◌≤◌, Bool, true, false, List, [], ◌∷◌, ◌++◌, length, take, Option, Some, None, refl, sym, ap, ◌∙◌, arith, append_assoc, append-nil, length-append, subst, get_or, flat_map}
+use Rattle.std.proofs.lemmas.List.{take-append-le, take_more}
+use Rattle.std.proofs.lemmas.Grind.{flat_map-append}
 use Rattle.std.proofs.Math.Seq.{take-append-add}
 use Rattle.rsml_io.specs.Writing.{appended, AppendsProperPrefix}
 use Rattle.text_writer.specs.Writes.{Writes}
@@ -70,7 +71,21 @@ both first second third old mid new a b h k = record {
   none = λ e. k.none (refused first second old mid a h e) ∙ h.none e;
 }
 
--- Forms that find the pieces.
-
+-- to write one piece and then another is to write both, whatever the pieces
 pub followed : {first second third : Bool} {old mid new : Option (List ℕ)} {a b : List ℕ} → Writes first old a second mid → Writes second mid b third new → Writes first old (a ++ b) third new
 followed {first} {second} {third} {old} {mid} {new} {a} {b} h k = both first second third old mid new a b h k
+
+-- bytes that are equal are written alike
+pub alike : {first second : Bool} {old new : Option (List ℕ)} {a b : List ℕ} → a ≡ b → Writes first old a second new → Writes first old b second new
+alike {first} {second} {old} {new} e h = let P : List ℕ → Type 0 = λ bytes. Writes first old bytes second new in subst P e h
+
+one_taken : {A : Type 0} (f : A → List ℕ) (xs : List A) (i : ℕ) (x : A) → i < length xs → x ≡ get_or xs i x → flat_map f (take i xs) ++ f x ≡ flat_map f (take (i + 1) xs)
+one_taken {A} f xs i x b e =
+    ap (λ (y : A). flat_map f (take i xs) ++ f y) e
+    ∙ sym (ap (λ (ys : List A). flat_map f ys) (take_more xs i x b) ∙ flat_map-append f (take i xs) (get_or xs i x ∷ [])
+    ∙ ap (λ (t : List ℕ). flat_map f (take i xs) ++ t) (append-nil (f (get_or xs i x))))
+
+-- behind the texts of the first items that of one more is written
+pub one_more : {A : Type 0} {first second third : Bool} {old mid new : Option (List ℕ)} (f : A → List ℕ) (xs : List A) (i : ℕ) (x : A) → i < length xs → x ≡ get_or xs i x
+    → Writes first old (flat_map f (take i xs)) second mid → Writes second mid (f x) third new → Writes first old (flat_map f (take (i + 1) xs)) third new
+one_more f xs i x b e h k = alike (one_taken f xs i x b e) (followed h k)
