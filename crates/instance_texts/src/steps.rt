@@ -4,7 +4,7 @@ ghost use Rattle.rsml_meaning.specs.Texts.{instance_text, path_text};
 ghost use Rattle.text_writer.specs.Writes.{Writes};
 ghost use Rattle.instance_texts.specs.Dotted.{dotted};
 
-use crate::step_ref::StepRef;
+use state_tree::StepRef;
 use text_writer::{Writer, put_number};
 
 /// Writes a name with an index.
