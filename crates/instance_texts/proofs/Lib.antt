@@ -1,1 +1,7 @@
+pub mod FoundLemmas
+pub mod InputCellLemmas
+pub mod InstanceLemmas
+pub mod LabelLemmas
 pub mod PathTexts
+pub mod Sizes
+pub mod StartLemmas

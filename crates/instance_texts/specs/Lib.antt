@@ -1,2 +1,6 @@
 pub mod Dotted
+pub mod InputCells
+pub mod Inputs
 pub mod Listing
+pub mod Sources
+pub mod Tables

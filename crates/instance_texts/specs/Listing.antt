@@ -1,10 +1,12 @@
 -- Instances with their declarations, in the order of the text.
 use Rattle.std.specs.Prelude.{ℕ, Bool, true, false, List, [], map, flat_map, if◌then◌else◌}
+use Rattle.rsml_syntax.specs.declared.syntax.Spec.{Spec}
 use Rattle.rsml_syntax.specs.declared.syntax.Decl.{Decl}
 use Rattle.rsml_syntax.specs.declared.syntax.Decl.TheVariants as decl
 use Rattle.rsml_syntax.specs.text.Names.{Name}
 use Rattle.rsml_syntax.specs.rules.Globals.{Globals, name_of, size_of, indices}
 use Rattle.rsml_meaning.specs.Words.{Instance, at}
+use Rattle.rsml_meaning.specs.Instances.{globals_of}
 use Rattle.instance_texts.specs.declared.sorts.Sort.{Sort}
 use Rattle.instance_texts.specs.declared.sorts.Sort.TheVariants as sorts
 
@@ -34,3 +36,7 @@ is_of _ _ = false
 -- the instances of a declaration, where it is one of this sort
 abbrev pub listed_by : Sort → Globals → Decl → List Listed
 listed_by sort g d = if is_of sort d then map (at_index d) (indices g (size_of d)) else []
+
+-- the instances of a sort in a specification
+abbrev pub all_listed : Sort → Spec → List Listed
+all_listed sort s = flat_map (listed_by sort (globals_of s)) s.decls

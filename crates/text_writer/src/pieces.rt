@@ -17,8 +17,8 @@ pub fn put_number<W: Writer>(writer: &mut W, number: u64)
 pub fn put_signed<W: Writer>(writer: &mut W, number: i64)
     ensures { Writes (W.whole writer.old) (W.text writer.old) (number_text number) (W.whole writer.new) (W.text writer.new) }
 {
-    let mut buffer = Buffer::new();
-    writer.put(buffer.format(number).as_bytes());
+    let mut digits = Buffer::new();
+    writer.put(digits.format(number).as_bytes());
 }
 
 /// Ends a line.
