@@ -1,5 +1,5 @@
 -- The cells of inputs that are listed are the cells of the definitions.
-use Rattle.std.proofs.Common.{◌≡◌, ℕ, Bool, true, false, List, [], ◌∷◌, ◌++◌, map, flat_map, filter, cond, ℤ, pos, refl, sym, ap, ◌∙◌}
+use Rattle.std.proofs.Common.{◌≡◌, ℕ, Bool, true, false, List, [], ◌∷◌, ◌++◌, map, flat_map, filter, cond, refl, sym, ap, ◌∙◌}
 use Rattle.std.proofs.lemmas.List.{map-append}
 use Rattle.rsml_syntax.specs.declared.syntax.Spec.{Spec}
 use Rattle.rsml_syntax.specs.declared.syntax.Decl.{Decl}
@@ -10,8 +10,8 @@ use Rattle.rsml_syntax.specs.limits.Previous.{names_previous}
 use Rattle.rsml_limits.specs.counts.PreviousNames.{previous_names}
 use Rattle.rsml_limits.proofs.NamedAfter.{previous_is}
 use Rattle.rsml_meaning.specs.Words.{at}
-use Rattle.rsml_meaning.specs.Instances.{globals_of, instances}
-use Rattle.rsml_meaning.specs.Cells.{InputType, InputCell, new_cell, type_named, initial_number, cells_of, own_cells, as_previous, previous_cells, cells}
+use Rattle.rsml_meaning.specs.Instances.{globals_of}
+use Rattle.rsml_meaning.specs.Cells.{InputCell, new_cell, type_named, initial_number, cells_of, own_cells, as_previous, previous_cells, cells}
 use Rattle.instance_texts.specs.declared.sorts.Sort.TheVariants as sorts
 use Rattle.instance_texts.specs.Listing.{Listed, at_index, listed_by, all_listed}
 use Rattle.instance_texts.specs.InputCells.{without_first, cell_at, is_named}

@@ -11,7 +11,7 @@ use Rattle.rsml_syntax.specs.limits.Comparisons.{Indices}
 use Rattle.rsml_meaning.specs.Words.{Instance, at}
 use Rattle.rsml_meaning.specs.Truth.{instance, within}
 use Rattle.rsml_meaning.specs.Instances.{globals_of, events_of, events}
-use Rattle.rsml_meaning.specs.Interfaces.{ReceiveInstance, new_receive, receives_of, receives, sends_of, sends, definitions}
+use Rattle.rsml_meaning.specs.Interfaces.{new_receive, receives_of, receives, sends_of, sends, definitions}
 use Rattle.state_arrays.specs.Places.{defined}
 use Rattle.state_arrays.specs.Made.{definitions_made, receives_made}
 use Rattle.state_arrays.proofs.InterfaceLemmas.{all_defined, all_received}

@@ -1,5 +1,5 @@
 -- The text of a path, step by step.
-use Rattle.std.proofs.Common.{◌≡◌, List, [], ◌∷◌, ◌++◌, sym, ap, append-nil, flat_map}
+use Rattle.std.proofs.Common.{◌≡◌, [], ◌∷◌, ◌++◌, ap, append-nil, flat_map}
 use Rattle.rsml_meaning.specs.Words.{Instance, Path}
 use Rattle.rsml_meaning.specs.Texts.{Text, instance_text, path_text}
 use Rattle.instance_texts.specs.Dotted.{dotted}

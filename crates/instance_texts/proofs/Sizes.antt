@@ -1,5 +1,5 @@
 -- The sizes of a checked specification, as its parts are named on the way.
-use Rattle.std.proofs.Common.{◌≡◌, ℕ, ◌≤◌, List, Option, Some, sym, ap, ◌∙◌, subst, slice_get}
+use Rattle.std.proofs.Common.{◌≡◌, ℕ, ◌≤◌, List, Some, sym, ap, ◌∙◌, subst, slice_get}
 use Rattle.rsml_syntax.specs.declared.syntax.Spec.{Spec}
 use Rattle.rsml_syntax.specs.declared.syntax.Decl.{Decl}
 use Rattle.rsml_syntax.specs.limits.Checked.{IsChecked}

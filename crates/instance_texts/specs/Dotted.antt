@@ -1,6 +1,6 @@
 -- The steps of a path after the first, as they are written.
-use Rattle.std.specs.Prelude.{◌++◌, flat_map, codes}
-use Rattle.rsml_meaning.specs.Words.{Instance, Path}
+use Rattle.std.specs.Prelude.{◌++◌, codes}
+use Rattle.rsml_meaning.specs.Words.{Instance}
 use Rattle.rsml_meaning.specs.Texts.{Text, instance_text}
 
 -- `.Child[3]`

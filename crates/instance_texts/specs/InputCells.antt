@@ -1,5 +1,5 @@
 -- Cells without their first numbers.
-use Rattle.std.specs.Prelude.{Bool, Option, Some, None, pos, map, List, filter}
+use Rattle.std.specs.Prelude.{Bool, Option, Some, None, pos, List}
 use Rattle.rsml_syntax.specs.declared.syntax.Decl.{Decl}
 use Rattle.rsml_syntax.specs.declared.syntax.Decl.TheVariants as decl
 use Rattle.rsml_syntax.specs.text.Names.{Name, is_in}

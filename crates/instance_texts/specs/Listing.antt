@@ -3,7 +3,6 @@ use Rattle.std.specs.Prelude.{ℕ, Bool, true, false, List, [], map, flat_map, i
 use Rattle.rsml_syntax.specs.declared.syntax.Spec.{Spec}
 use Rattle.rsml_syntax.specs.declared.syntax.Decl.{Decl}
 use Rattle.rsml_syntax.specs.declared.syntax.Decl.TheVariants as decl
-use Rattle.rsml_syntax.specs.text.Names.{Name}
 use Rattle.rsml_syntax.specs.rules.Globals.{Globals, name_of, size_of, indices}
 use Rattle.rsml_meaning.specs.Words.{Instance, at}
 use Rattle.rsml_meaning.specs.Instances.{globals_of}

@@ -75,7 +75,7 @@ fn put_action<W: Writer>(
     ensures { (t : TransitionInstance) → length t.component ≡ component → last_name t.source ≡ source.now.name
         → t.target ≡ option_copied target.entry
         → Writes (W.whole writer.old) (W.text writer.old) (action_text t)
-            (W.whole writer.new) (W.text writer.new) }
+        (W.whole writer.new) (W.text writer.new) }
 {
     match target {
         None => put_stay(writer, source),
@@ -93,7 +93,7 @@ fn put_label_of<W: Writer>(
     ensures { (t : TransitionInstance) → StartsBelow t → t.ordinal ≡ ordinal → t.source ≡ source.now
         → t.target ≡ option_copied target.entry
         → Writes (W.whole writer.old) (W.text writer.old) (label t)
-            (W.whole writer.new) (W.text writer.new) }
+        (W.whole writer.new) (W.text writer.new) }
 {
     match source.split_last() {
         Some((step, component)) => {

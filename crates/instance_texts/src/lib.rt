@@ -13,7 +13,5 @@ mod texts;
 mod values;
 
 pub use labels::{put_case_label, put_label};
-
 pub use steps::{put_instance, put_path};
 pub use texts::Texts;
-

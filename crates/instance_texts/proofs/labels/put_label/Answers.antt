@@ -1,7 +1,6 @@
-use Rattle.std.proofs.Common.{◌≡◌, List, Option, Some, None, sym, ap, ◌∙◌}
+use Rattle.std.proofs.Common.{◌≡◌, List, Some, None, sym, ap, ◌∙◌}
 use Rattle.std.specs.Option.{option_and_then}
-use Rattle.rsml_meaning.specs.Words.{Path}
-use Rattle.rsml_meaning.specs.Instances.{State, states}
+use Rattle.rsml_meaning.specs.Instances.{State}
 use Rattle.state_arrays.specs.Places.{path_at}
 use Rattle.instance_texts.proofs.StartLemmas.{starts_below, target_is}
 use Rattle.instance_texts.proofs.labels.put_label.Goals as goal

@@ -1,5 +1,5 @@
 use Rattle.std.proofs.Common.{◌≡◌, ◌∷◌, [], ◌++◌, length, rules, ap, sym, ◌∙◌}
-use Rattle.rsml_meaning.specs.Words.{Instance, Path}
+use Rattle.rsml_meaning.specs.Words.{Path}
 use Rattle.text_writer.proofs.WritingLemmas.{followed, alike}
 use Rattle.instance_texts.proofs.LabelLemmas.{component_is, last_is, label_joined}
 use Rattle.instance_texts.proofs.labels.put_label_of.Goals as goal

@@ -1,5 +1,5 @@
-use Rattle.std.proofs.Common.{◌≡◌, ℕ, ◌<◌, length, arith, ap, sym, ◌∙◌}
-use Rattle.rsml_meaning.specs.Words.{Instance, at}
+use Rattle.std.proofs.Common.{◌≡◌, ◌<◌, length, arith, ap}
+use Rattle.rsml_meaning.specs.Words.{at}
 use Rattle.text_writer.proofs.WritingLemmas.{followed, alike, one_more}
 use Rattle.instance_texts.specs.Dotted.{dotted}
 use Rattle.instance_texts.proofs.steps.put_further.Goals as goal

@@ -1,4 +1,4 @@
-use Rattle.std.proofs.Common.{◌≡◌, ◌∷◌, ◌++◌, flat_map, rules, ap, sym, ◌∙◌}
+use Rattle.std.proofs.Common.{◌≡◌, ◌∷◌, ◌++◌, flat_map, rules, ap, ◌∙◌}
 use Rattle.rsml_meaning.specs.Words.{Instance, Path, at}
 use Rattle.rsml_meaning.specs.Texts.{instance_text, path_text}
 use Rattle.text_writer.proofs.WritingLemmas.{followed, alike}
