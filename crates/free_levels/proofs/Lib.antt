@@ -1,0 +1,5 @@
+pub mod ValueLemmas
+pub mod ForgetLemmas
+pub mod KeyLemmas
+pub mod StageLemmas
+pub mod TurnLemmas
