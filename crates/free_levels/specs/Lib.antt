@@ -2,3 +2,4 @@ pub mod Values
 pub mod Keys
 pub mod Settle
 pub mod Stages
+pub mod Laws

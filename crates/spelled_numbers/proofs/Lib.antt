@@ -1,0 +1,4 @@
+pub mod WeightLemmas
+pub mod SpellingLemmas
+pub mod CoverLemmas
+pub mod BitLemmas

@@ -1,0 +1,13 @@
+//! How numbers of parts are spelled in levels: each level counts for one part with a weight, or is
+//! free.
+#![tactic(auto)]
+
+mod bits;
+mod laws;
+mod slot;
+mod weights;
+
+pub use bits::bits_of;
+pub use laws::{sum_laws, spelling_laws};
+pub use slot::Slot;
+pub use weights::{plain, powers};
