@@ -26,7 +26,7 @@ total-append (t ∷ ts) more = omega (arith, total-append ts more)
 abbrev one_bit : Bool → Bool → ℕ → ℕ → List Weighted
 one_bit b minus w k = option_to_list (if b then Some (record { minus = minus; level = k; weight = w }) else None)
 
-none_of : (b : Bool) → (if b then 0 else 0) ≡ 0
+none_of : (b : Bool) → (if b then zero else zero) ≡ zero
 none_of true = refl
 none_of false = refl
 
@@ -98,7 +98,7 @@ one-from true minus w k n (suc i) d less = absurd (omega (arith, less))
 one-from false minus w k n i d less = absurd (omega (arith, less))
 
 levels_from : (p : ℕ) (minus : Bool) (slots : List Slot) (k : ℕ) → All (IsFrom k (length slots)) (bits_of p minus slots k)
-levels_from p minus [] k i d less = absurd (omega (arith, less))
+levels_from p minus [] k = λ i d less. absurd (omega (arith, less))
 levels_from p minus (Part q w ∷ ss) k =
     All-append (IsFrom k (suc (length ss))) (one_bit (eqb q p) minus w k) (bits_of p minus ss (k + 1)) (one-from (eqb q p) minus w k (length ss))
     (All-weaker (IsFrom (k + 1) (length ss)) (IsFrom k (suc (length ss))) (λ t h. (omega (arith, h.0), omega (arith, h.1))) (bits_of p minus ss (k + 1)) (levels_from p minus ss (k + 1)))

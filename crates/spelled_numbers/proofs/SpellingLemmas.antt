@@ -18,7 +18,7 @@ at_most_it : (b : Bool) (n : ℕ) → (if b then n else 0) ≤ n
 at_most_it true n = omega arith
 at_most_it false n = omega arith
 
-nothing : (b : Bool) → (if b then 0 else 0) ≡ 0
+nothing : (b : Bool) → (if b then zero else zero) ≡ zero
 nothing true = refl
 nothing false = refl
 

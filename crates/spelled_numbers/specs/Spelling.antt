@@ -1,5 +1,5 @@
 -- The numbers that values of the levels spell, and values that spell numbers.
-use Rattle.std.specs.Prelude.{ℕ, ◌+◌, ◌-◌, ◌≤◌, nat_lt, ◌==◌, Bool, false, if◌then◌else◌, List, [], ◌∷◌, slice_index_or, ⊤}
+use Rattle.std.specs.Prelude.{◌≡◌, ℕ, ◌+◌, ◌-◌, ◌≤◌, nat_lt, ◌==◌, Bool, false, if◌then◌else◌, List, [], ◌∷◌, slice_index_or, slice_get, Some, ⊤}
 use Rattle.spelled_numbers.specs.declared.slot.Slot.{Slot}
 use Rattle.spelled_numbers.specs.declared.slot.Slot.TheVariants.{Part, Free}
 
@@ -44,3 +44,7 @@ digits (Free ∷ ss) numbers free k = free k ∷ digits ss numbers free (k + 1)
 -- values of the levels that spell these numbers, the free levels as they are
 abbrev pub spelled : List Slot → (ℕ → ℕ) → (ℕ → Bool) → ℕ → Bool
 spelled slots numbers free level = slice_index_or (digits slots numbers free 0) level false
+
+-- the level is one of the part's
+abbrev pub IsLevelOf : ℕ → List Slot → ℕ → Type 0
+IsLevelOf p slots level = (w : ℕ) × (slice_get slots level ≡ Some (Part p w))

@@ -3,11 +3,13 @@
 #![tactic(auto)]
 
 mod bits;
+mod digits;
 mod laws;
 mod slot;
 mod weights;
 
 pub use bits::bits_of;
-pub use laws::{sum_laws, spelling_laws};
+pub use digits::digit;
+pub use laws::{spelling_laws, sum_laws};
 pub use slot::Slot;
 pub use weights::{plain, powers};
