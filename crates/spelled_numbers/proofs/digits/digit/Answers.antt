@@ -1,4 +1,4 @@
-use Rattle.std.proofs.Common.{◌≡◌, ◌<◌, length, get_or, ap, sym, ◌∙◌, subst, arith}
+use Rattle.std.proofs.Common.{◌≡◌, ◌+◌, ◌-◌, ◌<◌, length, get_or, ap, sym, ◌∙◌, subst, arith}
 use Rattle.std.proofs.lemmas.List.{get_or_default}
 use Rattle.spelled_numbers.specs.declared.slot.Slot.TheVariants.{Free}
 use Rattle.spelled_numbers.specs.Spelling.{weight_for}
@@ -25,9 +25,18 @@ loop-place-preserved c =
     c.weight_of-weight.ensures ∙ ap (weight_for c.args.part) (get_or_default c.args.slots.now c.loop-place.place _ Free less) in
     record {
       later = omega (arith, c.loop-place.invariant.later, total_more c.args.part c.args.slots.now c.loop-place.place less, is);
-      reached = λ numbers free e. subst (λ n. Reached c.args.part c.args.slots.now c.args.level _ n numbers free) (sym c.rest_of-left.ensures)
-          (turn c.args.part c.args.slots.now c.args.level c.loop-place.place c.loop-place.left c.weight_of-weight.result _ numbers free
+      reached = λ numbers free e. subst (λ n. Reached c.args.part c.args.slots.now c.args.level (c.loop-place.place + 1) n numbers free) (sym c.rest_of-left.ensures)
+          (turn c.args.part c.args.slots.now c.args.level c.loop-place.place c.loop-place.left c.weight_of-weight.result (c.loop-place.later - c.weight_of-weight.result) numbers free
           (omega (arith, c.loop-place-test.true)) less is
           (omega (arith, c.loop-place.invariant.later, total_more c.args.part c.args.slots.now c.loop-place.place less, is))
           (c.loop-place.invariant.reached numbers free e));
     }
+
+pub returns : goal.returns
+returns c = λ numbers free e.
+    let at : c.loop-place.place ≡ c.args.level = omega (arith, c.loop-place-test.false) in
+    let less : c.args.level < length c.args.slots.now = within c.args.slots.now c.args.level c.args.part c.requires.own.0 c.requires.own.1 in
+    let is : c.weight_of-own.result ≡ weight_for c.args.part (get_or c.args.slots.now c.args.level Free) =
+    c.weight_of-own.ensures ∙ ap (weight_for c.args.part) (get_or_default c.args.slots.now c.args.level _ Free less) in
+    last c.args.part c.args.slots.now c.args.level c.loop-place.place c.loop-place.left c.loop-place.later c.requires.own.0 c.weight_of-own.result numbers free
+    at c.requires.own.1 is c.loop-place.invariant.later (c.loop-place.invariant.reached numbers free e)
