@@ -1,6 +1,6 @@
 -- What is said of keys stays where an arena keeps its functions.
-use Rattle.std.proofs.Common.{◌≡◌, ℕ, ◌<◌, Bool, List, length, get_or, sym, ◌∙◌, subst, arith, Option, None, Some, IfSome, IsSomeAnd}
-use Rattle.bdd_core.specs.Diagram.{Diagram, IsRef, meaning}
+use Rattle.std.proofs.Common.{◌≡◌, ℕ, ◌<◌, Bool, List, length, get_or, ◌∙◌, subst, arith, Option, None, Some, IfSome, IsSomeAnd}
+use Rattle.bdd_core.specs.Diagram.{Diagram, IsRef}
 use Rattle.bdd_core.specs.Calls.{Keeps, Represents}
 use Rattle.free_levels.specs.declared.cell.Cell.{Cell}
 use Rattle.free_levels.specs.declared.key.Key.{Key}

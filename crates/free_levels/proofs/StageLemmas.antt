@@ -1,15 +1,15 @@
 -- The stages of a sweep: a key made exact, a cell forgotten, and the end, where no key is left.
-use Rattle.std.proofs.Common.{◌≡◌, ◌↔◌, ℕ, zero, suc, ◌<◌, Bool, true, false, ◌||◌, List, [], ◌∷◌, length, get_or, set, refl, sym, ap, subst, ◌∙◌, inl, inr, true≢false, arith, All}
+use Rattle.std.proofs.Common.{◌≡◌, ◌↔◌, ℕ, zero, suc, ◌<◌, Bool, true, false, List, [], ◌∷◌, length, get_or, set, refl, sym, ap, subst, ◌∙◌, inl, inr, true≢false, arith}
 use Rattle.std.proofs.lemmas.Bool.{cases_eq}
 use Rattle.std.proofs.lemmas.Grind.{get_or-set_at}
 use Rattle.std.proofs.lemmas.List.{get_or-set_other}
 use Rattle.bdd_core.specs.Calls.{with_value}
 use Rattle.bdd_core.proofs.CanonicalLemmas.{with_value-same, with_value-apart}
 use Rattle.free_levels.specs.declared.cell.Cell.{Cell}
-use Rattle.free_levels.specs.Values.{is_in, AgreeOn, TrueOff, Ignores}
-use Rattle.free_levels.specs.Keys.{Keys, AreKeys, IsLawful, IsCell, levels_of}
+use Rattle.free_levels.specs.Values.{is_in, TrueOff, Ignores}
+use Rattle.free_levels.specs.Keys.{Keys, AreKeys, IsCell, levels_of}
 use Rattle.free_levels.specs.Settle.{AreKept, MayHold, MayHoldLawfully, IsSettled}
-use Rattle.free_levels.specs.Stages.{is_left, Holds, FewerLeft, IsStage}
+use Rattle.free_levels.specs.Stages.{is_left, Holds, IsStage}
 use Rattle.free_levels.proofs.ValueLemmas.{with_value-own, not_in-cons, ignores-all, or-by_left, or-by_right}
 use Rattle.free_levels.proofs.ForgetLemmas.{iff-trans}
 

@@ -63,7 +63,7 @@ FixLaw = (keys fixed : Keys) (first second : (ℕ → Bool) → Bool) (level : �
     → ((i : ℕ) (values : ℕ → Bool) → i < keys.count → fixed.function i values ≡ keys.function i (with_value values level value))
     → ((values : ℕ → Bool) → second values ≡ first (with_value values level value))
     → (kept values : ℕ → Bool) → MayHoldLawfully fixed second kept values
-      ↔ MayHoldLawfully keys first (with_value kept level true) (with_value values level value)
+    ↔ MayHoldLawfully keys first (with_value kept level true) (with_value values level value)
 
 -- worlds, which are numbers of parts: all values spell one, each is spelled, and the keys say the same of it as their functions
 pub record AreSpelled (is_world : (ℕ → ℕ) → Bool) (world_of : (ℕ → Bool) → ℕ → ℕ) (spelled : (ℕ → ℕ) → ℕ → Bool)

@@ -11,16 +11,14 @@ pub fn stage_laws()
     ensures widen { WidenLaw }
     ensures settle { SettleLaw }
     ensures stop { StopLaw }
-{
-}
+{}
 
 /// The laws of single levels: one that no node has changes nothing, and one that is given a value
 /// has it from then on.
 pub fn level_laws()
     ensures unreached { UnreachedLaw }
     ensures fix { FixLaw }
-{
-}
+{}
 
 /// What the clauses of a settled function say of worlds that values of the levels spell.
 pub fn world_laws()
@@ -28,5 +26,4 @@ pub fn world_laws()
     ensures ignore { IgnoreLaw }
     ensures world { WorldLaw }
     ensures least { LeastLaw }
-{
-}
+{}

@@ -66,7 +66,7 @@ pub fn sweep(
     ensures stage { IfOk result (λ r. (all : Keys) → AreKeys all → AreExact arena.old all keys.now
         → IsCell all cell.now
         → IsStage all (is_in cell.now.levels.items) left.old.items left.new.items
-            (meaning arena.old f) (meaning arena.new r)) }
+        (meaning arena.old f) (meaning arena.new r)) }
 {
     let mut out = f;
     for place in &cell.keys {
@@ -121,7 +121,7 @@ pub fn make_exact(
     ensures stage { IfOk result (λ r. (all : Keys) → AreKeys all → all.count ≡ length left.old.items
         → IsExact arena.old all place level exact
         → IsStage all (λ level. false) left.old.items left.new.items
-            (meaning arena.old f) (meaning arena.new r)) }
+        (meaning arena.old f) (meaning arena.new r)) }
 {
     if !left[place] {
         return Ok(f);

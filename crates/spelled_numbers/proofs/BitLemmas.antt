@@ -1,13 +1,13 @@
 -- The levels of a part, as terms of a sum.
-use Rattle.std.proofs.Common.{◌≡◌, ℕ, zero, suc, ◌+◌, ◌<◌, ◌≤◌, eqb, Bool, true, false, if◌then◌else◌, List, [], ◌∷◌, ◌++◌, length, get_or, drop, refl, sym, ◌∙◌, ap, subst, arith, All, ℤ, pos, neg_ℤ, ◌+ℤ◌, Option, Some, None, option_to_list}
+use Rattle.std.proofs.Common.{◌≡◌, ℕ, zero, suc, ◌+◌, ◌<◌, ◌≤◌, eqb, Bool, true, false, if◌then◌else◌, List, [], ◌∷◌, ◌++◌, length, get_or, drop, refl, sym, ◌∙◌, ap, arith, All, ℤ, pos, neg_ℤ, ◌+ℤ◌, Some, None, option_to_list}
 use Rattle.std.proofs.lemmas.Int.{ints}
-use Rattle.std.proofs.lemmas.List.{drop_more, drop_all, append-nil}
+use Rattle.std.proofs.lemmas.List.{drop_more}
 use Rattle.std.proofs.lemmas.List.Elements.{All-append, All-weaker}
 use Rattle.linear_bits.specs.declared.weighted.Weighted.{Weighted}
-use Rattle.linear_bits.specs.Sums.{term_value, signed_sum, weight_sum, total_weight}
+use Rattle.linear_bits.specs.Sums.{signed_sum, weight_sum, total_weight}
 use Rattle.spelled_numbers.specs.declared.slot.Slot.{Slot}
 use Rattle.spelled_numbers.specs.declared.slot.Slot.TheVariants.{Part, Free}
-use Rattle.spelled_numbers.specs.Spelling.{weight_for, total, number}
+use Rattle.spelled_numbers.specs.Spelling.{total, number}
 use Rattle.spelled_numbers.specs.Bits.{bit_of, bits_of}
 
 pub append : (v : ℕ → Bool) (some more : List Weighted) → signed_sum v (some ++ more) ≡ signed_sum v some +ℤ signed_sum v more

@@ -1,7 +1,7 @@
 -- The digit of a level, by going over the slots before it.
-use Rattle.std.proofs.Common.{◌≡◌, ◌≢◌, ℕ, zero, suc, ◌+◌, ◌-◌, ◌<◌, ◌≤◌, ltb, eqb, Bool, true, false, if◌then◌else◌, List, [], ◌∷◌, length, get_or, drop, refl, sym, ◌∙◌, ap, subst, arith, inl, inr, Some, slice_get}
+use Rattle.std.proofs.Common.{◌≡◌, ℕ, zero, suc, ◌+◌, ◌-◌, ◌<◌, ltb, eqb, Bool, true, false, if◌then◌else◌, List, [], ◌∷◌, length, get_or, drop, refl, sym, ◌∙◌, ap, subst, arith, inl, inr, Some, slice_get}
 use Rattle.std.proofs.lemmas.Bool.Decides.{eqb_tells}
-use Rattle.std.proofs.lemmas.List.{drop_more, drop_all}
+use Rattle.std.proofs.lemmas.List.{drop_more}
 use Rattle.std.proofs.lemmas.Option.{get_or_from_slice_get}
 use Rattle.spelled_numbers.specs.declared.slot.Slot.{Slot}
 use Rattle.spelled_numbers.specs.declared.slot.Slot.TheVariants.{Part, Free}
@@ -96,5 +96,5 @@ last p slots level place left later w x numbers free at is is_x total_is r =
     ap (λ n. ltb n left) rest
     ∙ ap (λ n. ltb (total p (drop (place + 1) slots)) n) (sym r.has)
     ∙ sym (r.same
-      ∙ ap (λ xs. get_or (digits xs r.now free place) (level - place) false) (drop_more slots place Free less2 ∙ ap (λ s. s ∷ drop (place + 1) slots) it)
-      ∙ (let z : level - place ≡ 0 = omega (arith, at) in ap (λ i. get_or (digits (Part p w ∷ drop (place + 1) slots) r.now free place) i false) z))
+    ∙ ap (λ xs. get_or (digits xs r.now free place) (level - place) false) (drop_more slots place Free less2 ∙ ap (λ s. s ∷ drop (place + 1) slots) it)
+    ∙ (let z : level - place ≡ 0 = omega (arith, at) in ap (λ i. get_or (digits (Part p w ∷ drop (place + 1) slots) r.now free place) i false) z))

@@ -1,9 +1,9 @@
 -- Each number up to the total is spelled, and no other.
-use Rattle.std.proofs.Common.{◌≡◌, ◌≢◌, ℕ, zero, suc, ◌+◌, ◌-◌, ◌<◌, ◌≤◌, ltb, eqb, Bool, true, false, if◌then◌else◌, List, [], ◌∷◌, ◌⊎◌, length, get_or, refl, sym, ◌∙◌, ap, subst, arith, inl, inr, Some, slice_get}
-use Rattle.std.proofs.lemmas.Bool.{true≢false, cases_eq}
+use Rattle.std.proofs.Common.{◌≡◌, ℕ, zero, suc, ◌+◌, ◌-◌, ◌<◌, ◌≤◌, ltb, eqb, Bool, true, false, if◌then◌else◌, List, [], ◌∷◌, ◌⊎◌, length, get_or, refl, sym, ◌∙◌, ap, subst, arith, inl, inr, Some, slice_get}
+use Rattle.std.proofs.lemmas.Bool.{true≢false}
 use Rattle.std.proofs.lemmas.Bool.Decides.{leb_tells, eqb_tells}
 use Rattle.bdd_core.specs.Calls.{with_value}
-use Rattle.bdd_core.proofs.CanonicalLemmas.{with_value-same, with_value-apart}
+use Rattle.bdd_core.proofs.CanonicalLemmas.{with_value-apart}
 use Rattle.spelled_numbers.specs.declared.slot.Slot.{Slot}
 use Rattle.spelled_numbers.specs.declared.slot.Slot.TheVariants.{Part, Free}
 use Rattle.spelled_numbers.specs.Spelling.{weight_for, total, number, Covers, left_after, digits, spelled}
@@ -127,13 +127,13 @@ elsewhere_from p [] values k i value e = refl
 elsewhere_from p (s ∷ ss) values k zero value e =
     ap (λ n. n + number p ss (with_value values (k + 0) value) (k + 1)) (no_weight (with_value values (k + 0) value k) (values k) (weight_for p s) e)
     ∙ ap (λ n. (if values k then weight_for p s else 0) + n)
-      (same_from p ss (with_value values (k + 0) value) values (k + 1) (λ i h. with_value-apart values (k + 0) i value (λ same. absurd (omega (arith, h, same)))))
+    (same_from p ss (with_value values (k + 0) value) values (k + 1) (λ i h. with_value-apart values (k + 0) i value (λ same. absurd (omega (arith, h, same)))))
 elsewhere_from p (s ∷ ss) values k (suc i) value e =
     let z : k + suc i ≡ k + 1 + i = omega arith in
     ap (λ c. (if c then weight_for p s else 0) + number p ss (with_value values (k + suc i) value) (k + 1))
-      (with_value-apart values (k + suc i) k value (λ same. absurd (omega (arith, same))))
+    (with_value-apart values (k + suc i) k value (λ same. absurd (omega (arith, same))))
     ∙ ap (λ n. (if values k then weight_for p s else 0) + n)
-      (ap (λ l. number p ss (with_value values l value) (k + 1)) z ∙ elsewhere_from p ss values (k + 1) i value e)
+    (ap (λ l. number p ss (with_value values l value) (k + 1)) z ∙ elsewhere_from p ss values (k + 1) i value e)
 
 pub elsewhere : (p : ℕ) (slots : List Slot) (values : ℕ → Bool) (level : ℕ) (value : Bool) → weight_for p (get_or slots level Free) ≡ 0
     → number p slots (with_value values level value) 0 ≡ number p slots values 0

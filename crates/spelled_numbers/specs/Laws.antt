@@ -1,5 +1,5 @@
 -- The laws of spelling.
-use Rattle.std.specs.Prelude.{◌≡◌, ℕ, ◌+◌, ◌<◌, ◌≤◌, Bool, false, List, ◌++◌, length, slice_get, slice_index_or, Some, sum, All, if◌then◌else◌, ℤ, pos, neg_ℤ, ◌+ℤ◌}
+use Rattle.std.specs.Prelude.{◌≡◌, ℕ, ◌<◌, ◌≤◌, Bool, false, List, ◌++◌, length, slice_get, slice_index_or, Some, sum, All, if◌then◌else◌, pos, neg_ℤ, ◌+ℤ◌}
 use Rattle.bdd_core.specs.Calls.{with_value}
 use Rattle.linear_bits.specs.declared.weighted.Weighted.{Weighted}
 use Rattle.linear_bits.specs.Sums.{signed_sum, weight_sum, total_weight}

@@ -40,13 +40,7 @@ fn weight_of(slot: Slot, part: u32) -> u64
     ensures { result ≡ weight_for part slot }
 {
     match slot {
-        Slot::Part { part: of, weight } => {
-            if of == part {
-                weight
-            } else {
-                0
-            }
-        }
+        Slot::Part { part: of, weight } => { if of == part { weight } else { 0 } }
         Slot::Free => 0,
     }
 }

@@ -11,8 +11,7 @@ pub fn spelling_laws()
     ensures elsewhere { ElsewhereLaw }
     ensures cover { CoverLaw }
     ensures total { TotalLaw }
-{
-}
+{}
 
 /// What sums of the levels of parts come to.
 pub fn sum_laws()
@@ -21,5 +20,4 @@ pub fn sum_laws()
     ensures append { AppendLaw }
     ensures all_weights { AllWeightsLaw }
     ensures levels { LevelsLaw }
-{
-}
+{}

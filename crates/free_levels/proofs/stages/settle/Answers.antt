@@ -1,4 +1,4 @@
-use Rattle.std.proofs.Common.{◌≡◌, ℕ, true, false, length, replicate, ◌∙◌, arith, below_more}
+use Rattle.std.proofs.Common.{◌≡◌, true, false, length, replicate, ◌∙◌, arith, below_more}
 use Rattle.std.proofs.lemmas.List.{get_or-replicate}
 use Rattle.bdd_core.specs.Diagram.{meaning}
 use Rattle.bdd_core.proofs.StepLemmas.{keeps_trans}

@@ -1,6 +1,6 @@
-use Rattle.std.proofs.Common.{◌≡◌, ℕ, ◌≤◌, false, length, get_or, ap, subst, arith, below_more}
+use Rattle.std.proofs.Common.{◌≡◌, ◌≤◌, false, length, get_or, ap, subst, arith, below_more}
 use Rattle.std.proofs.lemmas.Result.{IfOk-weaker}
-use Rattle.bdd_core.specs.Diagram.{Diagram, meaning}
+use Rattle.bdd_core.specs.Diagram.{meaning}
 use Rattle.bdd_core.proofs.StepLemmas.{keeps_trans}
 use Rattle.free_levels.specs.Values.{is_in, IsForgotten}
 use Rattle.free_levels.specs.Keys.{Keys, AreKeys, AreExact, IsCell}
@@ -34,7 +34,7 @@ returns-clause-stage c =
     IfOk-weaker c.forget.result
     (IsForgotten c.loop-place.arena c.forget.new.arena c.loop-place.out c.deref.result.now)
     (λ r. (all : Keys) → AreKeys all → AreExact c.args.arena.now all c.args.keys.now → IsCell all c.args.cell.now
-      → IsStage all (is_in c.args.cell.now.levels.items) c.args.left.now.items c.loop-place.left.items (meaning c.args.arena.now c.args.f) (meaning c.forget.new.arena r))
+    → IsStage all (is_in c.args.cell.now.levels.items) c.args.left.now.items c.loop-place.left.items (meaning c.args.arena.now c.args.f) (meaning c.forget.new.arena r))
     (λ r h. sweep-ends c.args.arena.now c.loop-place.arena c.forget.new.arena c.args.keys.now c.args.cell.now c.deref.result.now c.args.left.now.items c.loop-place.left.items
     c.args.f c.loop-place.out r c.deref.ensures.value (λ k less. c.loop-place.invariant.done k (omega (arith, less, over))) c.loop-place.invariant.stage h)
     c.forget.ensures.answer
