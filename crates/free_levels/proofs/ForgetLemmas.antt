@@ -1,11 +1,11 @@
 -- A function in place of a level, and levels forgotten one after another.
-use Rattle.std.proofs.Common.{◌≡◌, ℕ, ◌<◌, ◌≤◌, ◌↔◌, ◌+◌, Bool, true, false, ◌||◌, List, [], ◌∷◌, refl, sym, ap, subst, ◌∙◌, inl, inr, ◌⊎◌, length, drop, get_or}
+use Rattle.std.proofs.Common.{◌≡◌, ℕ, ◌<◌, ◌≤◌, ◌↔◌, ◌+◌, Bool, true, false, ◌||◌, List, [], ◌∷◌, refl, sym, ap, subst, ◌∙◌, inl, inr, ◌⊎◌, length, drop, get_or, true≢false}
 use Rattle.std.proofs.lemmas.Bool.{cases_eq}
 use Rattle.std.proofs.lemmas.List.{drop_more, drop_all}
 use Rattle.bdd_core.specs.Diagram.{Diagram, IsRef, meaning}
 use Rattle.bdd_core.specs.Calls.{with_value}
 use Rattle.bdd_core.proofs.CanonicalLemmas.{with_value-same, with_value-apart}
-use Rattle.free_levels.specs.Values.{AgreeOff, TrueOff, IsForgotten}
+use Rattle.free_levels.specs.Values.{is_in, AgreeOff, TrueOff, IsForgotten, IgnoresAll}
 use Rattle.free_levels.proofs.ValueLemmas.{by_levels, with_value-own, with_value-twice, or-by_left, or-by_right, not_in-first, not_in-rest, not_in-cons}
 
 -- one of the two is true: the value, and that it is
@@ -63,3 +63,29 @@ forget-end a b f r levels i p h same = record {
   is_ref = p;
   means = λ v. iff-trans (forget-none (meaning b r) v) (subst (λ ls. TrueOff (meaning b r) ls v ↔ TrueOff (meaning a f) levels v) (drop_all i levels h) (same v));
 }
+
+-- a level that is forgotten does not matter
+off_moves : (F : (ℕ → Bool) → Bool) (ls : List ℕ) (l : ℕ) (v : ℕ → Bool) (b : Bool) → is_in ls l ≡ true → TrueOff F ls v → TrueOff F ls (with_value v l b)
+off_moves F ls l v b there t = record {
+  other = t.other;
+  agree = λ k out. t.agree k out ∙ sym (with_value-apart v l k b (λ same. true≢false (sym (ap (is_in ls) same ∙ there) ∙ out)));
+  holds = t.holds;
+}
+
+off_back : (F : (ℕ → Bool) → Bool) (ls : List ℕ) (l : ℕ) (v : ℕ → Bool) (b : Bool) → is_in ls l ≡ true → TrueOff F ls (with_value v l b) → TrueOff F ls v
+off_back F ls l v b there t = record {
+  other = t.other;
+  agree = λ k out. t.agree k out ∙ with_value-apart v l k b (λ same. true≢false (sym (ap (is_in ls) same ∙ there) ∙ out));
+  holds = t.holds;
+}
+
+same_truth : (a b : Bool) → (a ≡ true → b ≡ true) → (b ≡ true → a ≡ true) → a ≡ b
+same_truth true true f g = refl
+same_truth true false f g = sym (f refl)
+same_truth false true f g = g refl
+same_truth false false f g = refl
+
+pub forget-gone : (a b : Diagram) (f r : ℕ) (levels all : List ℕ) → levels ≡ all → IsForgotten a b f levels r → IgnoresAll (meaning b r) all
+forget-gone a b f r levels all same is = subst (IgnoresAll (meaning b r)) same (λ l there v x. same_truth (meaning b r (with_value v l x)) (meaning b r v)
+    (λ e. (is.means v).1 (off_back (meaning a f) levels l v x there ((is.means (with_value v l x)).0 e)))
+    (λ e. (is.means (with_value v l x)).1 (off_moves (meaning a f) levels l v x there ((is.means v).0 e))))

@@ -4,7 +4,7 @@ use Rattle.bdd_core.specs.Diagram.{Diagram, IsRef}
 use Rattle.bdd_core.specs.Calls.{Represents}
 use Rattle.free_levels.specs.declared.cell.Cell.{Cell}
 use Rattle.free_levels.specs.declared.key.Key.{Key}
-use Rattle.free_levels.specs.Values.{is_in, Ignores}
+use Rattle.free_levels.specs.Values.{is_in, Ignores, IgnoresAll}
 
 -- how many keys there are, and the level and the function of each
 pub record Keys : Type 0 where
@@ -54,8 +54,7 @@ pub record AreMade (d : Diagram) (kept : List Key) (cell : Cell) : Type 0 where
 pub record IsCell (keys : Keys) (cell : Cell) : Type 0 where
   pub fits : (k : ℕ) → k < length cell.keys.items → slice_index cell.keys.items k < keys.count
   pub apart : (i : ℕ) → i < keys.count → is_in cell.levels.items (keys.level i) ≡ false
-  pub unread : (i : ℕ) → i < keys.count → is_in cell.keys.items i ≡ false
-      → (level : ℕ) → is_in cell.levels.items level ≡ true → Ignores (keys.function i) level
+  pub unread : (i : ℕ) → i < keys.count → is_in cell.keys.items i ≡ false → IgnoresAll (keys.function i) cell.levels.items
 
 -- whether a level is one of these cells'
 abbrev pub levels_of : List Cell → ℕ → Bool

@@ -66,39 +66,39 @@ FixLaw = (keys fixed : Keys) (first second : (ℕ → Bool) → Bool) (level : �
     ↔ MayHoldLawfully keys first (with_value kept level true) (with_value values level value)
 
 -- worlds, which are numbers of parts: all values spell one, each is spelled, and the keys say the same of it as their functions
-pub record AreSpelled (is_world : (ℕ → ℕ) → Bool) (world_of : (ℕ → Bool) → ℕ → ℕ) (spelled : (ℕ → ℕ) → ℕ → Bool)
-    (truth_of_key : ℕ → (ℕ → ℕ) → Bool) (keys : Keys) : Type 0 where
+pub record AreSpelled (is_world : List ℕ → Bool) (world_of : (ℕ → Bool) → List ℕ) (spelled : List ℕ → ℕ → Bool)
+    (truth_of_key : ℕ → List ℕ → Bool) (keys : Keys) : Type 0 where
   pub is_one : (values : ℕ → Bool) → is_world (world_of values) ≡ true
-  pub of_spelled : (w : ℕ → ℕ) → is_world w ≡ true → world_of (spelled w) ≡ w
-  pub spells_keys : (w : ℕ → ℕ) (i : ℕ) → is_world w ≡ true → i < keys.count → spelled w (keys.level i) ≡ truth_of_key i w
+  pub of_spelled : (w : List ℕ) → is_world w ≡ true → world_of (spelled w) ≡ w
+  pub spells_keys : (w : List ℕ) (i : ℕ) → is_world w ≡ true → i < keys.count → spelled w (keys.level i) ≡ truth_of_key i w
   pub exact : (i : ℕ) (values : ℕ → Bool) → i < keys.count → keys.function i values ≡ truth_of_key i (world_of values)
 
 -- values that spell a world are lawful
 abbrev pub SpelledLaw : Type 0
-SpelledLaw = (is_world : (ℕ → ℕ) → Bool) (world_of : (ℕ → Bool) → ℕ → ℕ) (spelled : (ℕ → ℕ) → ℕ → Bool) (truth_of_key : ℕ → (ℕ → ℕ) → Bool) (keys : Keys)
-    → AreSpelled is_world world_of spelled truth_of_key keys → (w : ℕ → ℕ) → is_world w ≡ true → IsLawful keys (spelled w)
+SpelledLaw = (is_world : List ℕ → Bool) (world_of : (ℕ → Bool) → List ℕ) (spelled : List ℕ → ℕ → Bool) (truth_of_key : ℕ → List ℕ → Bool) (keys : Keys)
+    → AreSpelled is_world world_of spelled truth_of_key keys → (w : List ℕ) → is_world w ≡ true → IsLawful keys (spelled w)
 
 -- a key's function does not depend on a level that does not change what the key says of the world
 abbrev pub IgnoreLaw : Type 0
-IgnoreLaw = (is_world : (ℕ → ℕ) → Bool) (world_of : (ℕ → Bool) → ℕ → ℕ) (spelled : (ℕ → ℕ) → ℕ → Bool) (truth_of_key : ℕ → (ℕ → ℕ) → Bool) (keys : Keys)
+IgnoreLaw = (is_world : List ℕ → Bool) (world_of : (ℕ → Bool) → List ℕ) (spelled : List ℕ → ℕ → Bool) (truth_of_key : ℕ → List ℕ → Bool) (keys : Keys)
     → AreSpelled is_world world_of spelled truth_of_key keys → (i level : ℕ) → i < keys.count
     → ((values : ℕ → Bool) (value : Bool) → truth_of_key i (world_of (with_value values level value)) ≡ truth_of_key i (world_of values))
     → Ignores (keys.function i) level
 
 -- the settled function is false everywhere exactly where the function holds in no world
 abbrev pub WorldLaw : Type 0
-WorldLaw = (is_world : (ℕ → ℕ) → Bool) (world_of : (ℕ → Bool) → ℕ → ℕ) (spelled : (ℕ → ℕ) → ℕ → Bool) (truth_of_key : ℕ → (ℕ → ℕ) → Bool) (keys : Keys)
+WorldLaw = (is_world : List ℕ → Bool) (world_of : (ℕ → Bool) → List ℕ) (spelled : List ℕ → ℕ → Bool) (truth_of_key : ℕ → List ℕ → Bool) (keys : Keys)
     → AreSpelled is_world world_of spelled truth_of_key keys
-    → (forgotten : ℕ → Bool) (function settled : (ℕ → Bool) → Bool) (truth : (ℕ → ℕ) → Bool) → IsSettled keys forgotten function settled
+    → (forgotten : ℕ → Bool) (function settled : (ℕ → Bool) → Bool) (truth : List ℕ → Bool) → IsSettled keys forgotten function settled
     → ((values : ℕ → Bool) → IsLawful keys values → function values ≡ truth (world_of values))
-    → ((values : ℕ → Bool) → settled values ≡ false) ↔ ((w : ℕ → ℕ) → is_world w ≡ true → truth w ≡ false)
+    → ((values : ℕ → Bool) → settled values ≡ false) ↔ ((w : List ℕ) → is_world w ≡ true → truth w ≡ false)
 
 -- the same beside a test of the world that kept levels alone decide: what a search for the least world asks
 abbrev pub LeastLaw : Type 0
-LeastLaw = (is_world : (ℕ → ℕ) → Bool) (world_of : (ℕ → Bool) → ℕ → ℕ) (spelled : (ℕ → ℕ) → ℕ → Bool) (truth_of_key : ℕ → (ℕ → ℕ) → Bool) (keys : Keys)
+LeastLaw = (is_world : List ℕ → Bool) (world_of : (ℕ → Bool) → List ℕ) (spelled : List ℕ → ℕ → Bool) (truth_of_key : ℕ → List ℕ → Bool) (keys : Keys)
     → AreSpelled is_world world_of spelled truth_of_key keys
-    → (forgotten : ℕ → Bool) (function settled : (ℕ → Bool) → Bool) (truth test : (ℕ → ℕ) → Bool) → IsSettled keys forgotten function settled
+    → (forgotten : ℕ → Bool) (function settled : (ℕ → Bool) → Bool) (truth test : List ℕ → Bool) → IsSettled keys forgotten function settled
     → ((values : ℕ → Bool) → IsLawful keys values → function values ≡ truth (world_of values))
     → (kept : ℕ → Bool) → AreKept keys forgotten kept
     → ((a b : ℕ → Bool) → AgreeOn kept a b → test (world_of a) ≡ test (world_of b))
-    → ((values : ℕ → Bool) → (settled values && test (world_of values)) ≡ false) ↔ ((w : ℕ → ℕ) → is_world w ≡ true → (truth w && test w) ≡ false)
+    → ((values : ℕ → Bool) → (settled values && test (world_of values)) ≡ false) ↔ ((w : List ℕ) → is_world w ≡ true → (truth w && test w) ≡ false)

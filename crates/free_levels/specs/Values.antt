@@ -30,3 +30,7 @@ pub record IsForgotten (old new : Diagram) (f : ℕ) (levels : List ℕ) (r : �
 -- the function does not depend on the level
 abbrev pub Ignores : ((ℕ → Bool) → Bool) → ℕ → Type 0
 Ignores function level = (values : ℕ → Bool) (value : Bool) → function (with_value values level value) ≡ function values
+
+-- the function depends on none of these levels
+abbrev pub IgnoresAll : ((ℕ → Bool) → Bool) → List ℕ → Type 0
+IgnoresAll function levels = (level : ℕ) → is_in levels level ≡ true → Ignores function level

@@ -2,7 +2,7 @@
 ghost use Rattle.std.specs.Prelude.{◌≡◌, ◌<◌, ℕ, Bool, false, All, IfOk, length};
 ghost use Rattle.bdd_core.specs.Diagram.{IsRef, meaning};
 ghost use Rattle.bdd_core.specs.Calls.{Keeps};
-ghost use Rattle.free_levels.specs.Values.{is_in};
+ghost use Rattle.free_levels.specs.Values.{is_in, IgnoresAll};
 ghost use Rattle.free_levels.specs.Keys.{Keys, AreKeys, IsExact, AreExact, key_at, IsMade, AreMade, IsCell, levels_of};
 ghost use Rattle.free_levels.specs.Settle.{IsSettled};
 ghost use Rattle.free_levels.specs.Stages.{is_left, FewerLeft, IsStage};
@@ -67,6 +67,7 @@ pub fn sweep(
         → IsCell all cell.now
         → IsStage all (is_in cell.now.levels.items) left.old.items left.new.items
         (meaning arena.old f) (meaning arena.new r)) }
+    ensures gone { IfOk result (λ r. IgnoresAll (meaning arena.new r) cell.now.levels.items) }
 {
     let mut out = f;
     for place in &cell.keys {

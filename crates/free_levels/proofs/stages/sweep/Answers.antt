@@ -1,10 +1,12 @@
-use Rattle.std.proofs.Common.{◌≡◌, ◌≤◌, false, length, get_or, ap, subst, arith, below_more}
+use Rattle.std.proofs.Common.{◌≡◌, ◌≤◌, false, length, get_or, sym, ◌∙◌, ap, subst, arith, below_more}
 use Rattle.std.proofs.lemmas.Result.{IfOk-weaker}
 use Rattle.bdd_core.specs.Diagram.{meaning}
+use Rattle.bdd_core.specs.Calls.{with_value}
 use Rattle.bdd_core.proofs.StepLemmas.{keeps_trans}
-use Rattle.free_levels.specs.Values.{is_in, IsForgotten}
+use Rattle.free_levels.specs.Values.{is_in, IsForgotten, IgnoresAll}
 use Rattle.free_levels.specs.Keys.{Keys, AreKeys, AreExact, IsCell}
 use Rattle.free_levels.specs.Stages.{is_left, IsStage}
+use Rattle.free_levels.proofs.ForgetLemmas.{forget-gone}
 use Rattle.free_levels.proofs.TurnLemmas.{widen-none, fewer-trans, key-turn, sweep-ends}
 use Rattle.free_levels.proofs.stages.sweep.Goals as goal
 
@@ -37,4 +39,13 @@ returns-clause-stage c =
     → IsStage all (is_in c.args.cell.now.levels.items) c.args.left.now.items c.loop-place.left.items (meaning c.args.arena.now c.args.f) (meaning c.forget.new.arena r))
     (λ r h. sweep-ends c.args.arena.now c.loop-place.arena c.forget.new.arena c.args.keys.now c.args.cell.now c.deref.result.now c.args.left.now.items c.loop-place.left.items
     c.args.f c.loop-place.out r c.deref.ensures.value (λ k less. c.loop-place.invariant.done k (omega (arith, less, over))) c.loop-place.invariant.stage h)
+    c.forget.ensures.answer
+
+pub returns-then-is_false-clause-gone : goal.returns-then-is_false-clause-gone
+returns-then-is_false-clause-gone c = λ level there v b. c.is_false.ensures.0 c.if-is_false.true (with_value v level b) ∙ sym (c.is_false.ensures.0 c.if-is_false.true v)
+
+pub returns-clause-gone : goal.returns-clause-gone
+returns-clause-gone c = IfOk-weaker c.forget.result (IsForgotten c.loop-place.arena c.forget.new.arena c.loop-place.out c.deref.result.now)
+    (λ r. IgnoresAll (meaning c.forget.new.arena r) c.args.cell.now.levels.items)
+    (λ r h. forget-gone c.loop-place.arena c.forget.new.arena c.loop-place.out r c.deref.result.now c.args.cell.now.levels.items c.deref.ensures.value h)
     c.forget.ensures.answer
