@@ -1,5 +1,5 @@
 -- Keys: free levels that stand for functions of other levels.
-use Rattle.std.specs.Prelude.{◌≡◌, ℕ, ◌<◌, Bool, true, false, ◌||◌, List, [], ◌∷◌, length, slice_index, slice_index_or, None, IfSome, IsSomeAnd}
+use Rattle.std.specs.Prelude.{◌≡◌, ℕ, ◌<◌, Bool, false, ◌||◌, List, [], ◌∷◌, length, slice_index, slice_index_or, None, IfSome, IsSomeAnd}
 use Rattle.bdd_core.specs.Diagram.{Diagram, IsRef}
 use Rattle.bdd_core.specs.Calls.{Represents}
 use Rattle.free_levels.specs.declared.cell.Cell.{Cell}
