@@ -1,4 +1,3 @@
-mod Instances
 mod Numbers
 mod ChainLemmas
 mod FirstClashes

@@ -19,7 +19,7 @@ use Rattle.rsml_scopes.proofs.rules.Scoped.{rules_give_scopes}
 use Rattle.state_tree.proofs.Lists.{place_of_one}
 use Rattle.ground_members.specs.Members.{IsEvent, IsSend}
 use Rattle.ground_members.proofs.Numbers.{place_is}
-use Rattle.event_chains.proofs.Instances.{one_event, one_send}
+use Rattle.ground_groups.proofs.Instances.{one_event, one_send}
 
 -- tests that answer alike on lists that stand for one another
 pub any_zip : {A B : Type 0} (R : A → B → Type 0) (p : A → Bool) (q : B → Bool) → ((x : A) (y : B) → R x y → q y ≡ p x) → (xs : List A) (ys : List B) → AllZip R xs ys → list_any q ys ≡ list_any p xs
