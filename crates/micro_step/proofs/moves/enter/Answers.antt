@@ -23,5 +23,5 @@ pub returns-in-Some-clause-fit : goal.returns-in-Some-clause-fit
 returns-in-Some-clause-fit c =
     let t = c.tree.result.now in
     ap length c.enter.ensures
-    ∙ after_long t (component_path t c.transition-moved.result.now.component) (path_of t c.in-Some.target) c.args.choices.now (enter-requires-clause-fit c)
+    ∙ after_long t (component_path t c.transition-moved.result.now.component) (path_of t c.in-Some.target) c.args.choices.now (c.requires.fit ∙ sym (ap (λ (s : Spec). length (components s)) c.tree.ensures))
     ∙ c.requires.fit

@@ -1,4 +1,5 @@
-use Rattle.std.proofs.Common.{◌<◌, ℤ, List, length, sym, ap, ◌∙◌, subst}
+use Rattle.std.proofs.Common.{◌<◌, ℤ, List, length, sym, ap, ◌∙◌, subst, rules, w64, FitsSigned}
+use Rattle.std.proofs.lemmas.Int.{to_z-of_z}
 use Rattle.std.specs.List.{All}
 use Rattle.rsml_meaning.specs.Cells.{cells}
 use Rattle.rsml_meaning.specs.Worlds.{IsWorld}
@@ -37,13 +38,15 @@ ask_value-requires-clause-function c =
 pub returns-in-Sum-clause-number : goal.returns-in-Sum-clause-number
 returns-in-Sum-clause-number c =
     let m = c.args.machine.now in
-    c.sum_number.ensures ∙ ap (λ (xs : List ℤ). truths.sum_number xs c.in-Sum.sum) c.as_slice.ensures
+    let small : FitsSigned w64 c.sum_number.result = search rules in
+    to_z-of_z w64 c.sum_number.result small ∙ c.sum_number.ensures ∙ ap (λ (xs : List ℤ). truths.sum_number xs c.in-Sum.sum) c.as_slice.ensures
     ∙ ap (value_number m c.args.world.now) (sym c.in-Sum.is)
 
 pub returns-in-Function-clause-number : goal.returns-in-Function-clause-number
 returns-in-Function-clause-number c =
     let m = c.args.machine.now in
-    c.ask_value.ensures.value ∙ ap (λ (g : Grounded). value_in g c.args.world.now c.in-Function.function) c.macros-macros.ensures
+    let small : FitsSigned w64 c.ask_value.result = search rules in
+    to_z-of_z w64 c.ask_value.result small ∙ c.ask_value.ensures.value ∙ ap (λ (g : Grounded). value_in g c.args.world.now c.in-Function.function) c.macros-macros.ensures
     ∙ ap (value_number m c.args.world.now) (sym c.in-Function.is)
 
 pub returns-in-Function-clause-knows : goal.returns-in-Function-clause-knows
