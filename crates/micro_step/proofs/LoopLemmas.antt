@@ -1,5 +1,5 @@
 -- One turn of each loop, and what is there for it.
-use Rattle.std.proofs.Common.{◌≡◌, ℕ, zero, suc, ◌+◌, ◌<◌, ◌≤◌, ◌==◌, ◌||◌, ◌&&◌, Bool, true, false, List, [], ◌∷◌, ◌++◌, map, fold, take, drop, length, replicate, get_or, set, Some, None, Option, if◌then◌else◌, slice_get, slice_index_or, ℤ, ⊎_elim, refl, sym, ap, ◌∙◌, subst, true≢false, arith}
+use Rattle.std.proofs.Common.{◌≡◌, ℕ, zero, suc, ◌+◌, ◌<◌, ◌≤◌, ◌==◌, ◌||◌, ◌&&◌, Bool, true, false, List, [], ◌∷◌, ◌++◌, map, fold, take, drop, length, replicate, get_or, set, Some, None, Option, if◌then◌else◌, slice_get, ℤ, ⊎_elim, refl, sym, ap, ◌∙◌, subst, true≢false, arith}
 use Rattle.std.specs.List.{list_any, AllZip}
 use Rattle.std.specs.Option.{option_map_or}
 use Rattle.std.proofs.lemmas.Bool.{cases_eq}
@@ -134,13 +134,6 @@ after_number_long m choices k h = by (slice_get m.transitions k)
     by : (o : Option GroundTransition) → length (option_map_or (after_move m choices) o choices) ≡ length (components s)
     by None = h
     by (Some x) = by_target x x.target
-
-pub entered_by : (m : GroundMachine) (choices : List ℕ) (k : ℕ) (x : GroundTransition) (o : Option ℕ) → slice_get m.transitions k ≡ Some x → x.target ≡ o
-    → after_number m choices k ≡ elim o [ None ↦ choices | Some target ↦ enter m.base.spec (component_path m.base.spec x.component) (path_of m.base.spec target) choices ]
-entered_by m choices k x o at e =
-    let s = m.base.spec in
-    ap (λ (y : Option GroundTransition). option_map_or (after_move m choices) y choices) at
-    ∙ ap (λ (z : Option ℕ). elim z [ None ↦ choices | Some target ↦ enter s (component_path s x.component) (path_of s target) choices ]) e
 
 -- Values.
 
@@ -338,10 +331,6 @@ pub room_all : (cs : List GroundSendCase) (i : ℕ) (lists : List (List ℤ)) �
     → AllZip (λ (x : GroundSendCase) (ns : List ℤ). length ns ≡ length (values_of x.answer)) cs lists
 room_all cs i lists l room = subst (λ (xs : List GroundSendCase). AllZip HasLength xs lists) (take_all i cs l) room
 
-pub zeros_long : (n : ℕ) (z : ℤ) → length (replicate n z) ≡ n
-zeros_long zero z = refl
-zeros_long (suc n) z = ap suc (zeros_long n z)
-
 -- Lists that are kept.
 
 pub map_set : {A B : Type 0} (f : A → B) (xs : List A) (k : ℕ) (x : A) → map f (set xs k x) ≡ set (map f xs) k (f x)
@@ -358,7 +347,3 @@ pub list_at : {A : Type 0} (m : GroundMachine) (f : A → List ℤ) (xs : List A
 list_at m f xs k x v l room at e =
     let there = numbers_there m k x (map f xs) room at in
     ap length (sym (get_mapped f xs k v there.0 l e there.1)) ∙ there.2
-
-pub is_none : (o : Option ℕ) → ((k : ℕ) → o ≡ Some k → ⊥) → o ≡ None
-is_none None h = refl
-is_none (Some k) h = absurd (h k refl)

@@ -10,9 +10,9 @@ use Rattle.rsml_syntax.specs.declared.syntax.Decl.TheVariants as decl
 use Rattle.rsml_syntax.specs.declared.world.World.{World}
 use Rattle.rsml_meaning.specs.Words.{Instance, Path}
 use Rattle.rsml_meaning.specs.Words as words
-use Rattle.rsml_meaning.specs.Instances.{State, Component, components, states, events, globals_of}
+use Rattle.rsml_meaning.specs.Instances.{State, Component, components, states, events}
 use Rattle.rsml_meaning.specs.Active.{active, enter}
-use Rattle.rsml_meaning.specs.Truth.{View, bare, learn, view, guard, within}
+use Rattle.rsml_meaning.specs.Truth.{View, bare, learn, view, within}
 use Rattle.rsml_meaning.specs.Transitions.{TransitionInstance, transitions}
 use Rattle.rsml_meaning.specs.Transitions as meaning
 use Rattle.rsml_meaning.specs.Interfaces.{SendCaseInstance, send_cases}
@@ -27,14 +27,14 @@ use Rattle.rsml_ground.proofs.DeclaredLemmas.{beside_first, path_is}
 use Rattle.rsml_ground.proofs.PhraseLemmas.{guards_mean_the_text}
 use Rattle.ground_members.specs.declared.transitions.GroundTransition.{GroundTransition}
 use Rattle.ground_members.specs.declared.send_cases.GroundSendCase.{GroundSendCase}
-use Rattle.ground_members.specs.Members.{TransitionIs, SendCaseIs, IsTarget, IsEvent, IsState}
+use Rattle.ground_members.specs.Members.{TransitionIs, SendCaseIs, IsTarget, IsEvent}
 use Rattle.elaborate.specs.Machine.{GroundMachine, StandsFor}
 use Rattle.elaborate.specs.Enabled.{is_enabled, is_sending}
 use Rattle.micro_step.specs.declared.events.Events.{Events}
 use Rattle.micro_step.specs.Sets.{has}
 use Rattle.micro_step.specs.Rising.{among}
-use Rattle.micro_step.specs.Places.{passes, places_where, ArePlaces}
-use Rattle.micro_step.specs.Micros.{events_in, AreEvents}
+use Rattle.micro_step.specs.Places.{passes, ArePlaces}
+use Rattle.micro_step.specs.Micros.{events_in}
 use Rattle.micro_step.specs.Numbers.{raised_at, after_move, after_number, taken_at, sent_at}
 use Rattle.micro_step.proofs.PlaceLemmas.{chosen_places, items_are}
 use Rattle.micro_step.proofs.PresentLemmas.{present_has, raises_has}
@@ -76,8 +76,8 @@ taken_are m w set stands =
     let s = m.base.spec in
     let present = events_in s set in
     let pair : (t : TransitionInstance) (x : GroundTransition) → TransitionIs m.base.phrases s t x → (has set x.event && is_enabled m w x) ≡ (words.has present t.event && meaning.is_enabled (view s w) t) =
-        λ t x is. ap (λ (b : Bool). b && is_enabled m w x) (sym (present_has s stands.grounded.checked (has set) t.event x.event is.event))
-        ∙ ap (λ (b : Bool). words.has present t.event && b) (transition_enabled m w stands t x is) in
+    λ t x is. ap (λ (b : Bool). b && is_enabled m w x) (sym (present_has s stands.grounded.checked (has set) t.event x.event is.event))
+    ∙ ap (λ (b : Bool). words.has present t.event && b) (transition_enabled m w stands t x is) in
     chosen_places (TransitionIs m.base.phrases s) (λ x. has set x.event && is_enabled m w x) (λ t. words.has present t.event && meaning.is_enabled (view s w) t)
     (transitions s) m.transitions stands.transitions_are pair (transitions s) 0 (at_same (transitions s))
 
@@ -88,8 +88,8 @@ sent_are m w set stands =
     let s = m.base.spec in
     let present = events_in s set in
     let pair : (c : SendCaseInstance) (x : GroundSendCase) → SendCaseIs m.base.phrases s c x → (has set x.event && is_sending m w x) ≡ (words.has present c.event && meaning_of.is_sending (view s w) c) =
-        λ c x is. ap (λ (b : Bool). b && is_sending m w x) (sym (present_has s stands.grounded.checked (has set) c.event x.event is.event))
-        ∙ ap (λ (b : Bool). words.has present c.event && b) (case_sending m w stands c x is) in
+    λ c x is. ap (λ (b : Bool). b && is_sending m w x) (sym (present_has s stands.grounded.checked (has set) c.event x.event is.event))
+    ∙ ap (λ (b : Bool). words.has present c.event && b) (case_sending m w stands c x is) in
     chosen_places (SendCaseIs m.base.phrases s) (λ x. has set x.event && is_sending m w x) (λ c. words.has present c.event && meaning_of.is_sending (view s w) c)
     (send_cases s) m.send_cases stands.cases_are pair (send_cases s) 0 (at_same (send_cases s))
 
@@ -104,7 +104,7 @@ any_raised m stands (t ∷ ts) (k ∷ ks) e q at z =
     let s = m.base.spec in
     let y = beside_first (TransitionIs m.base.phrases s) (transitions s) m.transitions stands.transitions_are k t z.0 in
     let here : passes (λ x. among x.raises q) m.transitions k ≡ words.has t.raises e =
-        ap (λ (o : Option GroundTransition). option_map_or (λ x. among x.raises q) o false) y.1 ∙ raises_has s stands.grounded.checked t.raises y.0.raises e q y.2.raises at in
+    ap (λ (o : Option GroundTransition). option_map_or (λ x. among x.raises q) o false) y.1 ∙ raises_has s stands.grounded.checked t.raises y.0.raises e q y.2.raises at in
     let there = any_raised m stands ts ks e q at z.1 in
     λ i. here i || there i
 
@@ -171,7 +171,7 @@ moves_are m stands (t ∷ ts) (k ∷ ks) choices z =
     let s = m.base.spec in
     let y = beside_first (TransitionIs m.base.phrases s) (transitions s) m.transitions stands.transitions_are k t z.0 in
     let here : after_number m choices k ≡ after_one s choices t =
-        ap (λ (o : Option GroundTransition). option_map_or (after_move m choices) o choices) y.1 ∙ move_is m t y.0 choices y.2 in
+    ap (λ (o : Option GroundTransition). option_map_or (after_move m choices) o choices) y.1 ∙ move_is m t y.0 choices y.2 in
     ap (λ (ns : List ℕ). fold (after_number m) ns ks) here ∙ moves_are m stands ts ks (after_one s choices t) z.1
 
 -- What a transition names is there.

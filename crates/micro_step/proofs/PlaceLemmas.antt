@@ -1,6 +1,6 @@
 -- Places of the items that pass, gathered one event after another.
-use Rattle.std.proofs.Common.{◌≡◌, ℕ, zero, suc, ◌+◌, ◌<◌, ◌≤◌, ◌==◌, ◌||◌, ◌&&◌, Bool, true, false, List, [], ◌∷◌, ◌++◌, map, filter, take, length, get_or, Some, None, Option, if◌then◌else◌, slice_get, ⊎_elim, ◌⊎◌, inl, inr, refl, sym, ap, ◌∙◌, subst, true≢false, arith, nat_lt}
-use Rattle.std.specs.List.{list_any, AllZip}
+use Rattle.std.proofs.Common.{◌≡◌, ℕ, zero, suc, ◌+◌, ◌<◌, ◌≤◌, ◌==◌, ◌||◌, ◌&&◌, Bool, true, false, List, [], ◌∷◌, ◌++◌, filter, take, length, get_or, Some, None, Option, if◌then◌else◌, slice_get, ⊎_elim, ◌⊎◌, inl, inr, refl, sym, ap, ◌∙◌, subst, true≢false, arith, nat_lt}
+use Rattle.std.specs.List.{AllZip}
 use Rattle.std.specs.Option.{option_map_or}
 use Rattle.std.proofs.lemmas.Bool.{eqb-true, ne_eqb, cases_eq, cases_lt, lt-ltb, le-ltb}
 use Rattle.std.proofs.lemmas.List.{take_more, take_all}

@@ -1,5 +1,5 @@
 -- The values that are sent are those that the specification allows.
-use Rattle.std.proofs.Common.{◌≡◌, ℕ, List, [], ◌∷◌, map, fold, Some, Option, ℤ, pos, inl, inr, refl, sym, ap, ◌∙◌, subst, slice_get, slice_index_or}
+use Rattle.std.proofs.Common.{◌≡◌, ℕ, List, [], ◌∷◌, map, fold, ℤ, inl, inr, refl, sym, ap, ◌∙◌, subst}
 use Rattle.std.specs.List.{AllZip}
 use Rattle.rsml_syntax.specs.declared.syntax.Spec.{Spec}
 use Rattle.rsml_syntax.specs.declared.syntax.Decl.{Decl}
@@ -20,7 +20,6 @@ use Rattle.rsml_ground.specs.Truths.{first_value, value_in}
 use Rattle.rsml_ground.proofs.DeclaredLemmas.{beside_first}
 use Rattle.rsml_ground.proofs.PhraseLemmas.{functions_mean_the_text}
 use Rattle.rsml_ground.proofs.SumLemmas.{sums_mean_the_text}
-use Rattle.ground_members.specs.declared.send_cases.GroundSendCase.{GroundSendCase}
 use Rattle.ground_members.specs.declared.send_cases.GroundValue.{GroundValue}
 use Rattle.ground_members.specs.declared.send_cases.GroundValue.TheVariants as value
 use Rattle.ground_members.specs.declared.send_cases.GroundAnswer.{GroundAnswer}
@@ -28,7 +27,6 @@ use Rattle.ground_members.specs.declared.send_cases.GroundAnswer.TheVariants as 
 use Rattle.ground_members.specs.Members.{SendCaseIs, AnswerIs, ValueIs}
 use Rattle.elaborate.specs.Machine.{GroundMachine, StandsFor}
 use Rattle.state_tree.proofs.Kin.{get_index}
-use Rattle.micro_step.specs.Rising.{among}
 use Rattle.micro_step.specs.Places.{ArePlaces}
 use Rattle.micro_step.specs.Numbers.{value_number, values_of, case_numbers, AreOfCase, of_cases}
 

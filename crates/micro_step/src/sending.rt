@@ -27,13 +27,7 @@ fn is_sending(machine: &Machine<'_>, world: &World, memo: &mut Memo, case: u32) 
 }
 
 /// Puts in a case of a send if it is enabled.
-fn send_one(
-    machine: &Machine<'_>,
-    world: &World,
-    memo: &mut Memo,
-    case: u32,
-    sent: &mut Rising,
-)
+fn send_one(machine: &Machine<'_>, world: &World, memo: &mut Memo, case: u32, sent: &mut Rising)
     requires world { IsWorld machine.now.base.spec world.now }
     requires knows { Knows machine.now.base world.now memo.old }
     requires case { case < length machine.now.send_cases }
@@ -52,13 +46,7 @@ fn send_one(
 }
 
 /// Puts in the cases of sends on an event that are enabled.
-fn send_on(
-    machine: &Machine<'_>,
-    world: &World,
-    memo: &mut Memo,
-    event: u32,
-    sent: &mut Rising,
-)
+fn send_on(machine: &Machine<'_>, world: &World, memo: &mut Memo, event: u32, sent: &mut Rising)
     requires world { IsWorld machine.now.base.spec world.now }
     requires knows { Knows machine.now.base world.now memo.old }
     requires event { event < length (events machine.now.base.spec) }

@@ -17,12 +17,7 @@ use rsml_syntax::World;
 
 /// One micro-step from a world on the events of a set: what is enabled is read in the world; then the moves are entered one
 /// after another, and the set is that of the events that are raised.
-pub fn micro(
-    machine: &Machine<'_>,
-    scratch: &mut Scratch,
-    world: &mut World,
-    events: &mut Events,
-)
+pub fn micro(machine: &Machine<'_>, scratch: &mut Scratch, world: &mut World, events: &mut Events)
     requires world { IsWorld machine.now.base.spec world.old }
     requires made { IsFor machine.now scratch.old }
     requires events { AreEvents machine.now.base.spec events.old }

@@ -64,13 +64,7 @@ fn take_one(
 }
 
 /// Takes the transitions on an event that are enabled.
-fn take_on(
-    machine: &Machine<'_>,
-    world: &World,
-    memo: &mut Memo,
-    event: u32,
-    taken: &mut Rising,
-)
+fn take_on(machine: &Machine<'_>, world: &World, memo: &mut Memo, event: u32, taken: &mut Rising)
     requires world { IsWorld machine.now.base.spec world.now }
     requires knows { Knows machine.now.base world.now memo.old }
     requires event { event < length (events machine.now.base.spec) }

@@ -1,6 +1,6 @@
-use Rattle.std.proofs.Common.{◌<◌, ◌+◌, List, ℕ, drop, fold, get_or, length, refl, sym, ap, ◌∙◌}
+use Rattle.std.proofs.Common.{◌<◌, ◌+◌, List, ℕ, drop, fold, length, refl, sym, ap, ◌∙◌}
 use Rattle.micro_step.specs.Numbers.{after_number, picked}
-use Rattle.micro_step.proofs.LoopLemmas.{each_at, picked_more, picked_below, no_rest}
+use Rattle.micro_step.proofs.LoopLemmas.{picked_more, picked_below, no_rest}
 use Rattle.micro_step.proofs.MachineLemmas.{moves_are}
 use Rattle.micro_step.proofs.MicroLemmas.{world_choices}
 use Rattle.micro_step.proofs.moves.apply_in.Goals as goal

@@ -1,4 +1,4 @@
-use Rattle.std.proofs.Common.{◌<◌, Some, None, Option, List, ℕ, length, sym, ap, ◌∙◌, subst}
+use Rattle.std.proofs.Common.{◌<◌, length, sym, ap, ◌∙◌, subst}
 use Rattle.rsml_syntax.specs.declared.syntax.Spec.{Spec}
 use Rattle.rsml_meaning.specs.Instances.{states, components}
 use Rattle.state_tree.specs.Numbers.{component_path, path_of}

@@ -1,4 +1,4 @@
-use Rattle.std.proofs.Common.{◌+◌, ◌&&◌, List, ℕ, sym, refl, ap, ◌∙◌, subst}
+use Rattle.std.proofs.Common.{◌&&◌, List, ℕ, sym, refl, ap, ◌∙◌, subst}
 use Rattle.elaborate.specs.Enabled.{is_sending}
 use Rattle.micro_step.specs.Rising.{AreRising, among}
 use Rattle.micro_step.specs.Sets.{has}

@@ -1,4 +1,4 @@
-use Rattle.std.proofs.Common.{◌≡◌, ◌≤◌, ◌-◌, ℕ, length}
+use Rattle.std.proofs.Common.{◌≡◌, ◌-◌, ℕ, length}
 use Rattle.macros.specs.Known.{Knows}
 use Rattle.elaborate.specs.Enabled.{is_sending}
 use Rattle.micro_step.specs.Places.{passes}

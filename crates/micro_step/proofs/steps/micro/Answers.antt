@@ -1,4 +1,4 @@
-use Rattle.std.proofs.Common.{◌&&◌, List, ℕ, fold, sym, ap, ◌∙◌, refl, true}
+use Rattle.std.proofs.Common.{◌&&◌, List, ℕ, fold, sym, ap, ◌∙◌, refl}
 use Rattle.elaborate.specs.Enabled.{is_enabled}
 use Rattle.micro_step.specs.Numbers.{raised_at, after_number}
 use Rattle.micro_step.specs.Sets.{has}

@@ -1,14 +1,12 @@
 use Rattle.std.proofs.Common.{◌<◌, ℤ, List, length, sym, ap, ◌∙◌, subst, rules, w64, FitsSigned}
 use Rattle.std.proofs.lemmas.Int.{to_z-of_z}
 use Rattle.std.specs.List.{All}
-use Rattle.rsml_meaning.specs.Cells.{cells}
 use Rattle.rsml_meaning.specs.Worlds.{IsWorld}
 use Rattle.rsml_ground.specs.Rests.{IsSmall, SumFits}
 use Rattle.rsml_ground.specs.Truths.{Grounded, value_in}
 use Rattle.rsml_ground.specs.Truths as truths
 use Rattle.macros.specs.Known.{Knows}
 use Rattle.macros.proofs.SmallCells.{small_cells, world_cells}
-use Rattle.ground_members.specs.declared.send_cases.GroundValue.{GroundValue}
 use Rattle.micro_step.specs.Numbers.{value_number, ValueFits}
 use Rattle.micro_step.proofs.values.value_number.Goals as goal
 

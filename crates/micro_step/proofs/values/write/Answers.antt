@@ -1,7 +1,4 @@
-use Rattle.std.proofs.Common.{◌<◌, ◌+◌, List, ℤ, get_or, length, map, take, refl, sym, ap, ◌∙◌, subst, arith}
-use Rattle.std.proofs.lemmas.List.{take_all}
-use Rattle.ground_members.specs.declared.send_cases.GroundValue.{GroundValue}
-use Rattle.micro_step.specs.Numbers.{ValueFits, value_number}
+use Rattle.micro_step.specs.Numbers.{ValueFits}
 use Rattle.micro_step.proofs.LoopLemmas.{value_at}
 use Rattle.micro_step.proofs.values.write.Goals as goal
 

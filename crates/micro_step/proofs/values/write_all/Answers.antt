@@ -1,6 +1,5 @@
-use Rattle.std.proofs.Common.{◌≡◌, ◌<◌, List, ℤ, get_or, length, map, set, refl, sym, ap, ◌∙◌, subst, arith}
+use Rattle.std.proofs.Common.{◌<◌, get_or, length, map, refl, arith}
 use Rattle.std.proofs.lemmas.List.{length-map}
-use Rattle.micro_step.specs.Numbers.{case_numbers}
 use Rattle.micro_step.proofs.LoopLemmas.{each_at, as_many, list_at, map_set, room_kept, cases_more}
 use Rattle.micro_step.proofs.values.write_all.Goals as goal
 

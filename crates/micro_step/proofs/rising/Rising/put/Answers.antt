@@ -1,6 +1,6 @@
 use Rattle.std.proofs.Common.{◌≡◌, ◌<◌, ◌||◌, ◌==◌, List, ℕ, length, ap, ◌∙◌, sym, subst, arith}
 use Rattle.std.specs.Vec.{vec_len, vec_capacity}
-use Rattle.micro_step.specs.Rising.{Numbers, AreRising, among}
+use Rattle.micro_step.specs.Rising.{Numbers, among}
 use Rattle.micro_step.proofs.RisingLemmas.{place_for, place_of_one, room_at, kept_at, among_put, among_again}
 use Rattle.micro_step.proofs.rising.Rising.put.Goals as goal
 

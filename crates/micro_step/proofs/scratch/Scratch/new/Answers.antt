@@ -1,4 +1,4 @@
-use Rattle.std.proofs.Common.{length, map, sym, ap, ◌∙◌}
+use Rattle.std.proofs.Common.{map, sym, ap, ◌∙◌}
 use Rattle.std.proofs.lemmas.List.{length-map}
 use Rattle.micro_step.specs.Rising.{Numbers}
 use Rattle.micro_step.proofs.LoopLemmas.{as_many}
