@@ -1,5 +1,5 @@
 -- What the cells of declarations may hold, in the order of the cells.
-use Rattle.std.proofs.Common.{◌≡◌, ℕ, zero, suc, ◌<◌, ◌≤◌, Bool, true, false, ◌&&◌, List, [], ◌∷◌, ◌++◌, map, flat_map, filter, cond, replicate, length, get_or, slice_get, Option, Some, None, ℤ, refl, sym, ap, ◌∙◌, arith}
+use Rattle.std.proofs.Common.{◌≡◌, ℕ, zero, suc, ◌<◌, ◌≤◌, Bool, true, false, ◌&&◌, List, [], ◌∷◌, ◌++◌, map, flat_map, filter, cond, replicate, length, get_or, slice_get, Option, Some, None, ℤ, pos, refl, sym, ap, ◌∙◌, arith}
 use Rattle.std.specs.Cmp.Lexicographic.{pointwise}
 use Rattle.std.specs.Option.{option_map, option_map_or}
 use Rattle.std.proofs.lemmas.List.{map-append, length-map}
@@ -18,13 +18,13 @@ use Rattle.state_arrays.proofs.Room.{many_instances}
 use Rattle.worlds.specs.declared.cell_ends.CellEnds.{CellEnds}
 use Rattle.worlds.specs.Ends.{Ends, named_ends, ends_of, declared_ends, written, is_between}
 
-all_same : (t : InputType) (n : ℤ) (name : Name) (is : List ℕ) → map ends_of (map (new_cell t n) (map (at name) is)) ≡ replicate (length (map (at name) is)) (named_ends name t)
+all_same : (t : InputType) (n : ℤ) (name : Name) (is : List ℕ) → map ends_of (map (new_cell t n) (map (at name) is)) ≡ replicate (length (map (at name) is)) (named_ends name t n)
 all_same t n name [] = refl
-all_same t n name (i ∷ is) = ap (λ (xs : List Ends). named_ends name t ∷ xs) (all_same t n name is)
+all_same t n name (i ∷ is) = ap (λ (xs : List Ends). named_ends name t n ∷ xs) (all_same t n name is)
 
 -- the cells of an input all have its ends
-pub input_ends : (g : Globals) (t : InputType) (n : ℤ) (name : Name) (size : _) → map ends_of (map (new_cell t n) (instances g name size)) ≡ replicate (many g size) (named_ends name t)
-input_ends g t n name size = all_same t n name (indices g size) ∙ ap (λ (k : ℕ). replicate k (named_ends name t)) (many_instances g name size)
+pub input_ends : (g : Globals) (t : InputType) (n : ℤ) (name : Name) (size : _) → map ends_of (map (new_cell t n) (instances g name size)) ≡ replicate (many g size) (named_ends name t n)
+input_ends g t n name size = all_same t n name (indices g size) ∙ ap (λ (k : ℕ). replicate k (named_ends name t n)) (many_instances g name size)
 
 all_declared : (g : Globals) (ds : List Decl) → flat_map (declared_ends g) ds ≡ map ends_of (flat_map (cells_of g) ds)
 all_declared g [] = refl
@@ -104,3 +104,40 @@ none_at cs es fs k n h same past =
     let long = sym (length-map es written) ∙ ap length h ∙ length-map cs ends_of in
     let fits = ap length same in
     sym (ap (λ (o : Option InputCell). option_map_or (λ c. is_of c.numbers n) o false) (slice_get_past cs k (omega (arith, long, fits, past))))
+
+-- The ends and the first number of a cell.
+
+shown_at : (cs : List InputCell) (es fs : List CellEnds) (k : ℕ) (e : CellEnds) → map written es ≡ map ends_of cs → fs ≡ es → e ≡ get_or fs k e → k < length fs → option_map ends_of (slice_get cs k) ≡ Some (written e)
+shown_at cs es fs k e h same item below =
+    sym (slice_get-map ends_of cs k)
+    ∙ ap (λ (xs : List Ends). slice_get xs k) (sym h)
+    ∙ slice_get-map written es k
+    ∙ ap (λ (xs : List CellEnds). option_map written (slice_get xs k)) (sym same)
+    ∙ ap (option_map written) (from_get fs k e item below)
+
+-- what is kept of a cell is that of the cell at the place
+pub kept_at : (cs : List InputCell) (es fs : List CellEnds) (k : ℕ) (e : CellEnds) (c : InputCell) → map written es ≡ map ends_of cs → fs ≡ es → e ≡ get_or fs k e → k < length fs → slice_get cs k ≡ Some c → written e ≡ ends_of c
+kept_at cs es fs k e c h same item below at =
+    sym (same_Some (ends_of c) (written e) (sym (ap (option_map ends_of) at) ∙ shown_at cs es fs k e h same item below))
+
+-- there are as many ends as cells
+pub as_many : (cs : List InputCell) (es : List CellEnds) → map written es ≡ map ends_of cs → length es ≡ length cs
+as_many cs es h = sym (length-map es written) ∙ ap length h ∙ length-map cs ends_of
+
+-- the first numbers that are kept are those of the cells
+pub first_numbers : (cs : List InputCell) (es : List CellEnds) → map written es ≡ map ends_of cs → map (λ e. e.initial) es ≡ map (λ c. c.initial) cs
+first_numbers [] [] h = refl
+first_numbers [] (e ∷ es) h = absurd (let no : ⊥ = cc in no)
+first_numbers (c ∷ cs) [] h = absurd (let no : ⊥ = cc in no)
+first_numbers (c ∷ cs) (e ∷ es) h =
+    let here = ap (λ (xs : List Ends). head_number xs) h in
+    let there = first_numbers cs es (ap (λ (xs : List Ends). later xs) h) in
+    λ i. here i ∷ there i
+  where
+    head_number : List Ends → ℤ
+    head_number [] = pos 0
+    head_number (x ∷ xs) = x.2
+
+    later : List Ends → List Ends
+    later [] = []
+    later (x ∷ xs) = xs

@@ -1,39 +1,91 @@
-ghost use Rattle.std.specs.Prelude.{◌≡◌, ◌++◌, IfOk, OnOk, flat_map, map, filter, replicate};
+ghost use Rattle.std.specs.Prelude.{◌≡◌, ◌++◌, IfOk, OnOk, flat_map, map, filter, pos, replicate};
 ghost use Rattle.std.specs.Option.{option_copied};
 ghost use Rattle.rsml_syntax.specs.limits.Thresholds as spec;
+ghost use Rattle.rsml_syntax.specs.rules.Globals as names;
 ghost use Rattle.rsml_syntax.specs.rules.Globals.{many};
 ghost use Rattle.rsml_syntax.specs.text.Names.{is_in};
+ghost use Rattle.rsml_meaning.specs.Cells as meaning;
 ghost use Rattle.rsml_meaning.specs.Cells.{cells, type_named};
 ghost use Rattle.worlds.specs.Ends.{declared_ends, ends_of, named_ends, written};
 
 use crate::cell_ends::CellEnds;
 use rsml_limits::previous_names;
 use rsml_names::{Globals, Known, NameList, number_of};
-use rsml_syntax::{Amount, Checked, Decl, NoMemory, Text};
+use rsml_syntax::{Amount, Checked, Decl, Initial, NoMemory, Text};
 use std::alloc::Global;
 
-/// The least and the greatest number of a type.
-fn type_ends(known: &Known<'_>) -> (i128, i128)
-    ensures { result ≡ spec.type_ends known.now }
+/// A place among names, as a number: more than 2^63 names have no room in memory.
+fn place_number(place: usize) -> Result<i64, NoMemory>
+    ensures { IfOk result (λ number. number ≡ pos place) }
 {
-    match known.decl {
-        Decl::Range { low, high, .. } => {
-            (i128::from(number_of(low)), i128::from(number_of(high)))
-        }
-        Decl::Enumeration { values, .. } => (0, i128::from(values.len() as u64) - 1),
-        _ => (0, 0),
+    match i64::try_from(place) {
+        Ok(number) => Ok(number),
+        Err(_) => Err(NoMemory),
     }
 }
 
-/// What a cell of this name and type may hold.
-fn named<'a>(globals: &Globals<'_>, name: &'a Text, kind: &Text) -> CellEnds<'a>
-    ensures { written result ≡ named_ends name.now (type_named globals.now kind.now) }
+/// The least and the greatest number of a type.
+fn type_ends(known: &Known<'_>) -> Result<(i64, i64), NoMemory>
+    ensures { IfOk result (λ ends. ends ≡ spec.type_ends known.now) }
 {
-    let (low, high) = match globals.meaning(kind) {
+    match known.decl {
+        Decl::Range { low, high, .. } => Ok((number_of(low), number_of(high))),
+        Decl::Enumeration { values, .. } => Ok((0, place_number(values.len())? - 1)),
+        _ => Ok((0, 0)),
+    }
+}
+
+/// The number of a constant, or of a value of an enumeration, which is its place.
+fn known_number(known: &Known<'_>) -> Result<i64, NoMemory>
+    ensures { IfOk result (λ number. number ≡ names.number_of known.now) }
+{
+    match known.value {
+        Some(place) => place_number(place),
+        None => Ok(known.constant().unwrap_or(0)),
+    }
+}
+
+/// The number that an initial value writes.
+fn initial_number(globals: &Globals<'_>, initial: &Initial) -> Result<i64, NoMemory>
+    ensures { IfOk result (λ number. number ≡ meaning.initial_number globals.now initial.now) }
+{
+    match initial {
+        Initial::Number(number) => Ok(number_of(number)),
+        Initial::Name(name) => match globals.meaning(name) {
+            Some(known) => known_number(known),
+            None => Ok(0),
+        },
+    }
+}
+
+/// The least and the greatest number of the type of this name.
+fn ends_named(globals: &Globals<'_>, kind: &Text) -> Result<(i64, i64), NoMemory>
+    ensures { IfOk result (λ ends. ends ≡ ((type_named globals.now kind.now).low, (type_named globals.now kind.now).high)) }
+{
+    match globals.meaning(kind) {
         Some(known) => type_ends(known),
-        None => (0, 0),
-    };
-    CellEnds { name, low, high }
+        None => Ok((0, 0)),
+    }
+}
+
+/// What a cell of this name and type may hold, and what it holds first.
+fn named<'a>(
+    globals: &Globals<'_>,
+    name: &'a Text,
+    kind: &Text,
+    initial: &Initial,
+) -> Result<CellEnds<'a>, NoMemory>
+    ensures { IfOk result (λ cell. written cell ≡ named_ends name.now
+        (type_named globals.now kind.now) (meaning.initial_number globals.now initial.now)) }
+{
+    let (low, high) = ends_named(globals, kind)?;
+    let initial = initial_number(globals, initial)?;
+    Ok(CellEnds {
+        name,
+        low,
+        high,
+        initial,
+    })
 }
 
 /// Adds the cells of an input.
@@ -67,8 +119,11 @@ fn add_declared<'a>(
             name,
             size,
             kind,
-            ..
-        } => add_input(cells, globals, named(globals, name, kind), size.as_ref()),
+            initial,
+        } => {
+            let cell = named(globals, name, kind, initial)?;
+            add_input(cells, globals, cell, size.as_ref())
+        }
         _ => Ok(()),
     }
 }

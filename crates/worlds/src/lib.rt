@@ -4,6 +4,7 @@
 
 mod cell_ends;
 mod ends;
+mod first;
 mod worlds;
 
 pub use worlds::Worlds;

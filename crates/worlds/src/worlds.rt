@@ -1,12 +1,14 @@
-ghost use Rattle.std.specs.Prelude.{◌≡◌, IfOk, false, length, slice_get};
+ghost use Rattle.std.specs.Prelude.{◌≡◌, ◌<◌, IfOk, Some, false, length, slice_get};
 ghost use Rattle.std.specs.Option.{option_map_or};
 ghost use Rattle.std.specs.Cmp.Lexicographic.{pointwise};
-ghost use Rattle.rsml_meaning.specs.Worlds.{is_world};
-ghost use Rattle.rsml_meaning.specs.Cells.{cells, is_of};
+ghost use Rattle.rsml_meaning.specs.Worlds.{IsWorld, is_world};
+ghost use Rattle.rsml_meaning.specs.Cells.{InputCell, cells, is_of};
+ghost use Rattle.rsml_meaning.specs.Runs.{first_world};
 ghost use Rattle.worlds.specs.Ends as spec;
 
 use crate::cell_ends::CellEnds;
 use crate::ends::ends;
+use crate::first::{first_choices, first_numbers};
 use rsml_syntax::{Checked, NoMemory, World};
 use state_tree::Tree;
 use std::alloc::Global;
@@ -20,12 +22,12 @@ pub struct Worlds<'a> {
 }
 
 impl<'a> Model for Worlds<'a> {
-    ghost use Rattle.std.specs.Prelude.{◌≡◌, map};
+    ghost use Rattle.std.specs.Prelude.{map};
     ghost use Rattle.std.specs.Coded.{codes};
     ghost use Rattle.rsml_syntax.specs.declared.syntax.Spec.{Spec};
     ghost use Rattle.rsml_syntax.specs.contracts.syntax.Body as bodies;
-    ghost use Rattle.rsml_meaning.specs.Cells.{cells};
-    ghost use Rattle.worlds.specs.Ends.{ends_of, written};
+    ghost use Rattle.worlds.specs.Ends.{written};
+    ghost use Rattle.worlds.specs.Worlds.{AreWorlds};
 
     ghost Value = { Spec };
 
@@ -33,14 +35,13 @@ impl<'a> Model for Worlds<'a> {
 
     ghost view = { λ w. w.tree };
 
-    ghost invariant = { λ w. map written w.ends.items ≡ map ends_of (cells w.tree) };
+    ghost invariant = { λ w. AreWorlds w.tree (map written w.ends.items) };
 }
 
 /// Whether the number is one that the cell may hold.
 fn is_between(cell: &CellEnds<'_>, number: i64) -> bool
     ensures { result ≡ spec.is_between (spec.written cell.now) number }
 {
-    let number = i128::from(number);
     cell.low <= number && number <= cell.high
 }
 
@@ -64,6 +65,7 @@ impl<'a> Worlds<'a> {
     pub fn new(alloc: Global, checked: &'a Checked) -> Result<Worlds<'a>, NoMemory>
         ensures { IfOk result (λ worlds. worlds ≡ checked.now) }
     {
+        let _ = checked.spec();
         let tree = Tree::build(alloc, checked)?;
         let ends = ends(alloc, checked)?;
         Ok(Worlds { tree, ends })
@@ -92,6 +94,34 @@ impl<'a> Worlds<'a> {
             Some(ends) => is_between(ends, number),
             None => false,
         }
+    }
+
+    /// The least number that a cell may hold.
+    pub fn low(&self, cell: u32) -> i64
+        requires { cell < length (cells self.now) }
+        ensures { (c : InputCell) → slice_get (cells self.now) cell ≡ Some c → result ≡ c.numbers.low }
+    {
+        let _ = &self.tree;
+        self.ends[cell as usize].low
+    }
+
+    /// The greatest number that a cell may hold.
+    pub fn high(&self, cell: u32) -> i64
+        requires { cell < length (cells self.now) }
+        ensures { (c : InputCell) → slice_get (cells self.now) cell ≡ Some c → result ≡ c.numbers.high }
+    {
+        let _ = &self.tree;
+        self.ends[cell as usize].high
+    }
+
+    /// The first world: each component has its default child, and each cell its input's initial number.
+    pub fn first(&self, alloc: Global) -> Result<World, NoMemory>
+        ensures first { IfOk result (λ world. world ≡ first_world self.now) }
+        ensures fits { IfOk result (λ world. IsWorld self.now world) }
+    {
+        let choices = first_choices(alloc, &self.tree)?;
+        let cells = first_numbers(alloc, self.ends.as_slice())?;
+        Ok(World { choices, cells })
     }
 
     /// Whether this is a world of the specification.

@@ -15,7 +15,7 @@ returns-then-fits c =
     let held = c.are_between.ensures
     ∙ ap (λ (es : List CellEnds). pointwise (λ e n. is_between (written e) n) es c.as_slice-then-fits-2.result.now) c.as_slice-then-fits.ensures.value
     ∙ ap (λ (ns : List ℤ). pointwise (λ e n. is_between (written e) n) c.self.inside.ends.items ns) c.as_slice-then-fits-2.ensures
-    ∙ cells_fit (cells c.self.inside.tree) c.self.inside.ends.items c.args.world.now.cells c.self.invariant in
+    ∙ cells_fit (cells c.self.inside.tree) c.self.inside.ends.items c.args.world.now.cells c.self.invariant.cells_are in
     let chosen = c.if-fits.ensures ∙ ap (λ (ks : List ℕ). pointwise is_choice (components c.self.inside.tree) ks) c.as_slice.ensures in
     held ∙ ap (λ (b : Bool). b && pointwise (λ x n. is_of x.numbers n) (cells c.self.inside.tree) c.args.world.now.cells) chosen
     ∙ ap (λ (s : Spec). is_world s c.args.world.now) c.self.view_is

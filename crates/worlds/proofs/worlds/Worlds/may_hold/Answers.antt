@@ -12,10 +12,10 @@ returns-in-Some c =
     let small : FitsSigned w64 c.args.number = search rules in
     c.is_between.ensures
     ∙ ap (is_between (written c.in-Some.ends.now)) (to_z-of_z w64 c.args.number small)
-    ∙ may_hold_at (cells c.args.self.now) c.self.inside.ends.items _ c.args.cell c.args.number c.in-Some.ends.now (c.self.invariant ∙ ap (λ (s : Spec). map ends_of (cells s)) c.self.view_is) c.deref.ensures.value
+    ∙ may_hold_at (cells c.args.self.now) c.self.inside.ends.items _ c.args.cell c.args.number c.in-Some.ends.now (c.self.invariant.cells_are ∙ ap (λ (s : Spec). map ends_of (cells s)) c.self.view_is) c.deref.ensures.value
     c.in-Some.ensures.lookup.1 (let b = c.in-Some.ensures.lookup.0 in grind (arith, nat_tests, b))
 
 pub returns-in-None : goal.returns-in-None
 returns-in-None c =
-    none_at (cells c.args.self.now) c.self.inside.ends.items _ c.args.cell c.args.number (c.self.invariant ∙ ap (λ (s : Spec). map ends_of (cells s)) c.self.view_is) c.deref.ensures.value
+    none_at (cells c.args.self.now) c.self.inside.ends.items _ c.args.cell c.args.number (c.self.invariant.cells_are ∙ ap (λ (s : Spec). map ends_of (cells s)) c.self.view_is) c.deref.ensures.value
     (let b = c.in-None.ensures.lookup in grind (arith, nat_tests, b))

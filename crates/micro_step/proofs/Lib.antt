@@ -1,0 +1,9 @@
+pub mod BitLemmas
+pub mod LoopLemmas
+pub mod MachineLemmas
+pub mod MicroLemmas
+pub mod PlaceLemmas
+pub mod PresentLemmas
+pub mod RisingLemmas
+pub mod TurnLemmas
+pub mod ValueLemmas

@@ -1,0 +1,19 @@
+use Rattle.std.proofs.Common.{◌≡◌, ◌-◌, ℕ, length}
+use Rattle.macros.specs.Known.{Knows}
+use Rattle.elaborate.specs.Enabled.{is_sending}
+use Rattle.micro_step.specs.Places.{passes}
+use Rattle.micro_step.specs.Rising.{AreRising, among}
+use Rattle.micro_step.specs.Sets.{has}
+use Rattle.micro_step.proofs.PlaceLemmas.{before_event}
+use Rattle.micro_step.proofs.sending.send.Given as goal
+
+abbrev pub invariant-loop-event : goal.invariant-loop-event
+invariant-loop-event l = record {
+  bound : l.sent.below ≡ length l.machine.send_cases;
+  rising : AreRising l.sent.items;
+  knows : Knows l.machine.base l.world l.memo;
+  so_far : (q : ℕ) → among l.sent.items q ≡ passes (before_event (has l.present) (λ x. x.event) (is_sending l.machine l.world) l.from) l.machine.send_cases q;
+}
+
+abbrev pub decreases-loop-event : goal.decreases-loop-event
+decreases-loop-event l = 1024 - l.from

@@ -1,0 +1,5 @@
+pub mod Micros
+pub mod Numbers
+pub mod Places
+pub mod Rising
+pub mod Sets

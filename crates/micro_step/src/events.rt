@@ -1,0 +1,55 @@
+ghost use Rattle.std.specs.Prelude.{◌≡◌, ℕ, ◌<◌, ◌≤◌, ◌==◌, ◌||◌, true, false, IfSome, None};
+ghost use Rattle.micro_step.specs.Sets.{has};
+
+/// How many events a set has at most.
+const MOST: usize = 1024;
+
+/// A set of events, the numbers below 1,024.
+#[derive(Clone, Copy)]
+pub struct Events {
+    pub words: [u64; 16],
+}
+
+impl Events {
+    /// No events.
+    pub fn new() -> Events
+        ensures { (q : ℕ) → has result q ≡ false }
+    {
+        Events { words: [0; 16] }
+    }
+
+    /// Whether an event is in the set.
+    pub fn has(&self, event: usize) -> bool
+        requires { event < 1024 }
+        ensures { result ≡ has self.now event }
+    {
+        (self.words[event / 64] >> (event % 64)) & 1 == 1
+    }
+
+    /// Puts an event in.
+    pub fn put(&mut self, event: usize)
+        requires { event < 1024 }
+        ensures { (q : ℕ) → has self.new q ≡ (has self.old q || event == q) }
+    {
+        self.words[event / 64] |= 1 << (event % 64);
+    }
+
+    /// The least event of the set that is not below a number.
+    pub fn next(&self, from: usize) -> Option<usize>
+        ensures some { IfSome result (λ e. (from ≤ e) × (e < 1024) × (has self.now e ≡ true)
+            × ((q : ℕ) → from ≤ q → q < e → has self.now q ≡ false)) }
+        ensures none { result ≡ None → (q : ℕ) → from ≤ q → has self.now q ≡ false }
+    {
+        let mut at = from;
+        while at < MOST {
+            if at % 64 == 0 && self.words[at / 64] == 0 {
+                at += 64;
+            } else if self.has(at) {
+                return Some(at);
+            } else {
+                at += 1;
+            }
+        }
+        None
+    }
+}

@@ -1,0 +1,35 @@
+ghost use Rattle.std.specs.Prelude.{◌≡◌, ◌<◌, ◌||◌, ℕ, length};
+ghost use Rattle.rsml_meaning.specs.Words.{Each};
+ghost use Rattle.micro_step.specs.Numbers.{raised_at};
+ghost use Rattle.micro_step.specs.Places.{passes};
+ghost use Rattle.micro_step.specs.Rising.{among};
+ghost use Rattle.micro_step.specs.Sets.{has};
+
+use crate::events::Events;
+use elaborate::Machine;
+
+/// Puts in the events that a transition raises.
+fn raise_by(machine: &Machine<'_>, transition: u32, raised: &mut Events)
+    requires { transition < length machine.now.transitions }
+    ensures { (q : ℕ) → has raised.new q
+        ≡ (has raised.old q || passes (λ x. among x.raises q) machine.now.transitions transition) }
+{
+    machine.law();
+    let _ = machine.events();
+    let raises = machine.transition(transition).raises.as_slice();
+    for event in raises {
+        raised.put(*event as usize);
+    }
+}
+
+/// The events that transitions raise.
+pub fn raised_by(machine: &Machine<'_>, taken: &[u32]) -> Events
+    requires { Each (λ k. k < length machine.now.transitions) taken.now }
+    ensures { (q : ℕ) → has result q ≡ raised_at machine.now taken.now q }
+{
+    let mut raised = Events::new();
+    for transition in taken {
+        raise_by(machine, *transition, &mut raised);
+    }
+    raised
+}

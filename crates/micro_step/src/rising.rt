@@ -1,0 +1,66 @@
+ghost use Rattle.std.specs.Prelude.{◌≡◌, ◌<◌, ◌==◌, ◌||◌, ℕ, [], IfOk};
+ghost use Rattle.rsml_meaning.specs.Words.{Each};
+ghost use Rattle.micro_step.specs.Rising.{AreRising, among};
+
+use rsml_syntax::NoMemory;
+use std::alloc::Global;
+use std::marker::Model;
+
+/// Rising numbers below a bound. Only `new` takes memory.
+#[derive(Drop)]
+pub struct Rising {
+    items: Vec<u32>,
+    bound: u32,
+}
+
+impl Model for Rising {
+    ghost use Rattle.std.specs.Prelude.{vec_capacity};
+    ghost use Rattle.micro_step.specs.Rising.{AreKept, Numbers};
+
+    ghost Value = { Numbers };
+
+    ghost view = { λ r. record { below = r.bound; items = r.items.items } };
+
+    ghost invariant = { λ r. AreKept r.items.items r.bound (vec_capacity r.items) };
+}
+
+impl Rising {
+    /// No numbers, with room for all below the bound.
+    pub fn new(alloc: Global, bound: u32) -> Result<Rising, NoMemory>
+        ensures { IfOk result (λ r. r ≡ record { below = bound; items = [] }) }
+    {
+        let items = Vec::with_capacity(alloc, bound as usize)?;
+        Ok(Rising { items, bound })
+    }
+
+    /// Takes all numbers out.
+    pub fn clear(&mut self)
+        ensures { self.new ≡ record { below = self.old.below; items = [] } }
+    {
+        self.items.clear();
+    }
+
+    /// Puts a number in its place.
+    pub fn put(&mut self, number: u32)
+        requires { number < self.old.below }
+        ensures below { self.new.below ≡ self.old.below }
+        ensures among { (q : ℕ) → among self.new.items q ≡ (among self.old.items q || number == q) }
+        ensures rising { AreRising self.new.items }
+    {
+        let _ = &self.bound;
+        match self.items.as_slice().binary_search(&number) {
+            Ok(_) => {}
+            Err(place) => self.items.insert(place, number).unwrap(),
+        }
+    }
+
+    /// The numbers.
+    pub fn as_slice(&self) -> &[u32]
+        ensures value { result.now ≡ self.now.items }
+        ensures rising { AreRising self.now.items }
+        ensures under { Each (λ k. k < self.now.below) self.now.items }
+    {
+        let _ = &self.bound;
+        self.items.as_slice()
+    }
+}
