@@ -1,11 +1,11 @@
 -- The number that digits write, digit by digit.
-use Rattle.std.proofs.Common.{◌≡◌, ℕ, zero, suc, ◌+◌, ◌-◌, ◌*◌, ◌^◌, ◌<◌, ◌≤◌, Bool, true, false, List, [], ◌∷◌, length, drop, get_or, Option, Some, None, refl, sym, ap, ◌∙◌, arith, drop-cons, add-one}
+use Rattle.std.proofs.Common.{◌≡◌, ℕ, zero, suc, ◌+◌, ◌-◌, ◌*◌, ◌^◌, ◌<◌, ◌≤◌, Bool, true, false, List, [], ◌∷◌, length, drop, get_or, Option, Some, None, refl, sym, ap, ◌∙◌, arith}
 use Rattle.std.specs.Prelude.{if◌then◌else◌, ◌==◌, ◌&&◌, not, min, fold, ℤ, pos, negsuc, neg_ℤ}
 use Rattle.std.specs.Option.{option_map}
 use Rattle.std.specs.Char.{is_ascii_digit}
 use Rattle.std.specs.Str.{byte, all_ascii_digits}
 use Rattle.std.proofs.lemmas.Bool.{eqb-true}
-use Rattle.std.proofs.lemmas.List.{drop_all, nil_from_length}
+use Rattle.std.proofs.lemmas.List.{drop_all, drop_more, nil_from_length}
 use Rattle.rsml_meaning.specs.EventLines.{Bytes, is_empty, digits_number, signed_number}
 use Rattle.event_lines.specs.helpers.Capped.{capped, capped_signed}
 
@@ -32,20 +32,13 @@ digit_more n c cs h = ap (λ b. if b && all_ascii_digits cs then Some (capped (c
 after_cap : (m n d r : ℕ) → r ≡ min (min (n * 10) m + d) m → min r m ≡ min (n * 10 + d) m
 after_cap m n d r h = omega (arith, h)
 
-at_index : (text : Bytes) (i c : ℕ) → i < length text → c ≡ get_or text i c → drop i text ≡ c ∷ drop (i + 1) text
-at_index text i c h e = rw (add-one, drop-cons text i c h) (ap (λ z. z ∷ drop (suc i) text) (sym e))
-
 -- a turn of the loop over digits
-pub digit_turn : (text : Bytes) (i c n r : ℕ) → i < length text → c ≡ get_or text i c → is_ascii_digit c ≡ true → r ≡ min (min (n * 10) (2 ^ 64 - 1) + (c - 48)) (2 ^ 64 - 1) →
-    more_digits r (drop (i + 1) text) ≡ more_digits n (drop i text)
-digit_turn text i c n r h e digit is =
+pub digit_turn : (text : Bytes) (i n r : ℕ) (all : Option ℕ) → i < length text → is_ascii_digit (get_or text i 0) ≡ true →
+    r ≡ min (min (n * 10) (2 ^ 64 - 1) + (get_or text i 0 - 48)) (2 ^ 64 - 1) → more_digits n (drop i text) ≡ all → more_digits r (drop (i + 1) text) ≡ all
+digit_turn text i n r all h digit is e =
+    let c = get_or text i 0 in
     same_digits r (n * 10 + (c - 48)) (drop (i + 1) text) (after_cap (2 ^ 64 - 1) n (c - 48) r is)
-    ∙ sym (digit_more n c (drop (i + 1) text) digit) ∙ ap (more_digits n) (sym (at_index text i c h e))
-
--- another byte than a digit
-pub no_digit : (text : Bytes) (i c n : ℕ) → i < length text → c ≡ get_or text i c → is_ascii_digit c ≡ false → more_digits n (drop i text) ≡ None
-no_digit text i c n h e other =
-    ap (more_digits n) (at_index text i c h e) ∙ ap (λ b. if b && all_ascii_digits (drop (i + 1) text) then Some (capped (counted n (c ∷ drop (i + 1) text))) else None) other
+    ∙ sym (digit_more n c (drop (i + 1) text) digit) ∙ sym (ap (more_digits n) (drop_more text i 0 h)) ∙ e
 
 -- all digits were read
 pub digits_end : (text : Bytes) (i n : ℕ) → length text ≤ i → n < 2 ^ 64 → more_digits n (drop i text) ≡ Some n

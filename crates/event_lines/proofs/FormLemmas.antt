@@ -1,10 +1,10 @@
 -- The form at the number of a declaration is that of its receives.
-use Rattle.std.proofs.Common.{◌≡◌, ℕ, zero, suc, ◌+◌, ◌-◌, ◌<◌, ◌≤◌, Bool, true, false, List, [], ◌∷◌, ◌++◌, map, flat_map, length, take, drop, get_or, slice_get, Option, Some, None, refl, sym, ap, ◌∙◌, subst, inl, inr, arith, leb-true, length-append}
-use Rattle.std.specs.Prelude.{if◌then◌else◌, ◌&&◌, nat_le, is_some}
-use Rattle.std.specs.Option.{option_map, option_and_then}
+use Rattle.std.proofs.Common.{◌≡◌, ℕ, zero, suc, ◌+◌, ◌-◌, ◌<◌, ◌≤◌, Bool, true, false, List, [], ◌∷◌, ◌++◌, map, flat_map, length, take, drop, get_or, slice_get, Option, Some, None, refl, sym, ap, ◌∙◌, subst, inl, inr, arith, leb-true, length-append, append_assoc, Bor}
+use Rattle.std.specs.Prelude.{if◌then◌else◌, ◌&&◌, nat_le, is_some, MatchOption}
+use Rattle.std.specs.Option.{option_map, option_and_then, option_copied}
 use Rattle.std.specs.Cmp.{first_so, second_so}
 use Rattle.std.proofs.lemmas.Bool.{cases_lt}
-use Rattle.std.proofs.lemmas.List.{length-map, length_push}
+use Rattle.std.proofs.lemmas.List.{length-map, length_push, map_push}
 use Rattle.std.proofs.lemmas.Option.{slice_get-map, slice_get_within, same_Some}
 use Rattle.rsml_syntax.specs.declared.syntax.Spec.{Spec}
 use Rattle.rsml_syntax.specs.declared.syntax.Decl.{Decl}
@@ -17,10 +17,11 @@ use Rattle.rsml_meaning.specs.Words.{Each}
 use Rattle.rsml_meaning.specs.Cells.{InputType}
 use Rattle.rsml_meaning.specs.Interfaces.{ReceiveInstance, new_receive, receives_of, receives}
 use Rattle.rsml_meaning.specs.EventLines as lines
+use Rattle.rsml_names.proofs.Gathering.{split}
 use Rattle.rsml_scopes.proofs.Globals.{meaning_is}
 use Rattle.event_lines.specs.declared.form.Form.{Form}
 use Rattle.event_lines.specs.helpers.Declared.{declared_by, types_of}
-use Rattle.event_lines.specs.helpers.Forms.{field_of, listed, AreWithin, index_of, Written, written, declared, declared_from, IsWithin, AreForms, IsFormOf}
+use Rattle.event_lines.specs.helpers.Forms.{field_of, listed, AreWithin, index_of, Written, written, declared, declared_from, after, IsWithin, AreForms, IsFormOf}
 
 -- Lists.
 
@@ -223,7 +224,7 @@ module _ (s : Spec) (name : Name) where
       where
         by : (o : Option Decl) → Some (slice_get s.decls n) ≡ option_map (λ d. Some d) o → declared_by s.decls name ≡ o → (d : Decl) × IsDecl d
         by None h e = cc
-        by (Some d) h e = (d, same_Some (slice_get s.decls n) (Some d) h, e)
+        by (Some d) h e = (d, (same_Some (slice_get s.decls n) (Some d) h, e))
 
     written_at : (d : Decl) → slice_get s.decls n ≡ Some d → option_map (option_map (written types)) (slice_get forms n) ≡ Some (declared g (length (flat_map (receives_of g) (take n s.decls))) d)
     written_at d there =
@@ -234,9 +235,9 @@ module _ (s : Spec) (name : Name) where
     form_at o h =
         let d = the_decl in
         (d.0, record {
-          there = d.1;
-          declares = d.2;
-          is = ap (λ (ts : List InputType). option_map (written ts) o) (sym a.types_are) ∙ same_Some _ _ (sym (ap (option_map (option_map (written types))) h) ∙ written_at d.0 d.1);
+          there = d.1.0;
+          declares = d.1.1;
+          is = ap (λ (ts : List InputType). option_map (written ts) o) (sym a.types_are) ∙ same_Some _ _ (sym (ap (option_map (option_map (written types))) h) ∙ written_at d.0 d.1.0);
           within = each_at (IsWithin (length s.decls + 1)) forms n o a.within h;
         })
 
@@ -248,4 +249,85 @@ module _ (s : Spec) (name : Name) where
     is_no_form h = let p = form_at None h in no_form n p.0 p.1
 
     pub is_there : slice_get forms n ≡ None → ⊥
-    is_there h = let d = the_decl in let e = sym (ap (option_map (option_map (written types))) h) ∙ written_at d.0 d.1 in let no : ⊥ = cc in no
+    is_there h = let d = the_decl in let e = sym (ap (option_map (option_map (written types))) h) ∙ written_at d.0 d.1.0 in let no : ⊥ = cc in no
+
+-- The form of a name, by its number.
+
+pub form_result : (sp s : Spec) (name : Name) (owners : List Decl) (types : List InputType) (forms held : List (Option Form)) (n : ℕ) (r : Option (Bor Form)) → sp ≡ s → owners ≡ sp.decls → AreForms sp.decls types forms →
+    Some (slice_get owners n) ≡ option_map (λ d. Some d) (declared_by owners name) → held ≡ forms → option_copied r ≡ option_and_then (λ o. o) (slice_get held n) →
+    MatchOption r (lines.interface (globals s.decls) name ≡ None) (λ f. IsFormOf s name f.now)
+form_result sp s name owners types forms held n r same o a number h result =
+    subst (λ (z : Spec). MatchOption r (lines.interface (globals z.decls) name ≡ None) (λ f. IsFormOf z name f.now)) same
+    (by r (slice_get forms n) refl (result ∙ ap (λ (fs : List (Option Form)). option_and_then (λ o. o) (slice_get fs n)) h))
+  where
+    here : Some (slice_get sp.decls n) ≡ option_map (λ d. Some d) (declared_by sp.decls name)
+    here = subst (λ (ds : List Decl). Some (slice_get ds n) ≡ option_map (λ d. Some d) (declared_by ds name)) o number
+
+    by : (r : Option (Bor Form)) (held : Option (Option Form)) → slice_get forms n ≡ held → option_copied r ≡ option_and_then (λ o. o) held → MatchOption r (lines.interface (globals sp.decls) name ≡ None) (λ f. IsFormOf sp name f.now)
+    by None None e k = absurd (is_there sp name types forms a n here e)
+    by None (Some None) e k = is_no_form sp name types forms a n here e
+    by None (Some (Some f)) e k = cc
+    by (Some x) None e k = cc
+    by (Some x) (Some None) e k = cc
+    by (Some x) (Some (Some f)) e k = subst (λ (z : Form). IsFormOf sp name z) (sym (same_Some x.now f k)) (is_form sp name types forms a n here f e)
+
+-- Forms one after another.
+
+length_indices : (g : Globals) (size : Option Amount) → length (indices g size) ≡ many g size
+length_indices g None = refl
+length_indices g (Some amount) = length_up_to (many g (Some amount))
+
+after_is : (types : List InputType) (g : Globals) (first : ℕ) (d : Decl) (o : Option Form) → option_map (written types) o ≡ declared g first d → after first o ≡ first + length (receives_of g d)
+after_is types g first (decl.Enumeration _ _) None e = omega arith
+after_is types g first (decl.Range _ _ _) None e = omega arith
+after_is types g first (decl.Constant _ _) None e = omega arith
+after_is types g first (decl.Input _ _ _ _) None e = omega arith
+after_is types g first (decl.Event _ _) None e = omega arith
+after_is types g first (decl.Macro _ _ _) None e = omega arith
+after_is types g first (decl.Function _ _ _) None e = omega arith
+after_is types g first (decl.Send _ _ _ _) None e = omega arith
+after_is types g first (decl.Receive name size inputs raised) None e = cc
+after_is types g first (decl.Enumeration _ _) (Some f) e = cc
+after_is types g first (decl.Range _ _ _) (Some f) e = cc
+after_is types g first (decl.Constant _ _) (Some f) e = cc
+after_is types g first (decl.Input _ _ _ _) (Some f) e = cc
+after_is types g first (decl.Event _ _) (Some f) e = cc
+after_is types g first (decl.Macro _ _ _) (Some f) e = cc
+after_is types g first (decl.Function _ _ _) (Some f) e = cc
+after_is types g first (decl.Send _ _ _ _) (Some f) e = cc
+after_is types g first (decl.Receive name size inputs raised) (Some f) e =
+    let same : written types f ≡ record { first = first; many = many g size; is_array = is_some size; fields = map (listed g) inputs } = same_Some _ _ e in
+    let firsts : f.first ≡ first = ap (λ (w : Written). w.first) same in
+    let sizes : f.many ≡ many g size = ap (λ (w : Written). w.many) same in
+    omega (arith, firsts, sizes, length-map (indices g size) (new_receive g name inputs raised), length_indices g size)
+
+pub forms_turn : (types : List InputType) (g : Globals) (ds : List Decl) (i first next : ℕ) (d : Decl) (form : Option Form) (forms more : List (Option Form)) (asked : List (Option Written)) → i < length ds → d ≡ get_or ds i d →
+    option_map (written types) form ≡ declared g first d → next ≡ after first form → more ≡ forms ++ (form ∷ []) →
+    map (option_map (written types)) forms ++ declared_from g first (drop i ds) ≡ asked → map (option_map (written types)) more ++ declared_from g next (drop (i + 1) ds) ≡ asked
+forms_turn types g ds i first next d form forms more asked below item is next_is push h =
+    ap (λ (fs : List (Option Form)). map (option_map (written types)) fs ++ declared_from g next (drop (i + 1) ds)) push
+    ∙ ap (λ (ws : List (Option Written)). ws ++ declared_from g next (drop (i + 1) ds)) (map_push (option_map (written types)) forms form)
+    ∙ append_assoc (map (option_map (written types)) forms) (option_map (written types) form ∷ []) (declared_from g next (drop (i + 1) ds))
+    ∙ ap (λ (w : Option Written). map (option_map (written types)) forms ++ (w ∷ declared_from g next (drop (i + 1) ds))) is
+    ∙ ap (λ (n : ℕ). map (option_map (written types)) forms ++ (declared g first d ∷ declared_from g n (drop (i + 1) ds))) (next_is ∙ after_is types g first d form is)
+    ∙ ap (λ (xs : List Decl). map (option_map (written types)) forms ++ declared_from g first xs) (sym (split ds i d below item))
+    ∙ h
+
+each_push : {A : Type 0} (P : A → Type 0) (xs : List A) (y : A) → Each P xs → P y → Each P (xs ++ (y ∷ []))
+each_push P [] y h k = (k, tt)
+each_push P (x ∷ xs) y h k = (h.0, each_push P xs y h.1 k)
+
+pub within_turn : (n : ℕ) (form : Option Form) (forms more : List (Option Form)) → more ≡ forms ++ (form ∷ []) → IsWithin n form → Each (IsWithin n) forms → Each (IsWithin n) more
+within_turn n form forms more push here h = subst (Each (IsWithin n)) (sym push) (each_push (IsWithin n) forms form h here)
+
+pub are_forms : (owners ds : List Decl) (g : Globals) (fs : List (Option Form)) → owners ≡ ds → g ≡ globals owners → map (option_map (written (types_of owners))) fs ≡ declared_from g 0 ds →
+    Each (IsWithin (length owners + 1)) fs → AreForms ds (types_of ds) fs
+are_forms owners ds g fs e k h w = record {
+  types_are = refl;
+  forms_are = sym (ap (λ (zs : List Decl). map (option_map (written (types_of zs))) fs) e) ∙ h ∙ ap (λ (z : Globals). declared_from z 0 ds) (k ∙ ap globals e);
+  within = subst (λ (zs : List Decl). Each (IsWithin (length zs + 1)) fs) e w;
+}
+
+pub built : (ds decls : List Decl) (types : List InputType) (fs : List (Option Form)) → ds ≡ decls → types ≡ types_of ds → AreForms ds (types_of ds) fs → AreForms decls types fs
+built ds decls types fs e h a =
+    subst (λ (ts : List InputType). AreForms decls ts fs) (sym (h ∙ ap types_of e)) (subst (λ (zs : List Decl). AreForms zs (types_of zs) fs) e a)

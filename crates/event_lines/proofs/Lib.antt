@@ -1,10 +1,10 @@
 pub mod WordLemmas
 pub mod BracketLemmas
 pub mod DigitLemmas
-pub mod ValueLemmas
 pub mod OwnerLemmas
 pub mod TypeLemmas
 pub mod FieldLemmas
 pub mod FormLemmas
 pub mod LineLemmas
 pub mod MostLemmas
+pub mod FieldTexts

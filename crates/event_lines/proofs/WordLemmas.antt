@@ -1,12 +1,14 @@
 -- The words of a text, one after another.
-use Rattle.std.proofs.Common.{◌≡◌, ℕ, zero, suc, ◌+◌, ◌≤◌, Bool, true, false, cond, List, [], ◌∷◌, Some, None, inl, inr, length, take, drop, refl, sym, ap, ◌∙◌, arith}
-use Rattle.std.specs.Prelude.{filter, not, if◌then◌else◌, ◌==◌}
-use Rattle.std.specs.List.{position_or_len, position}
-use Rattle.std.specs.Option.{unwrap_or}
-use Rattle.std.proofs.lemmas.Bool.{eqb-true, eqb-false, cases_lt, lt-ltb, le-ltb}
-use Rattle.std.proofs.lemmas.List.{nil_from_length}
-use Rattle.std.proofs.lemmas.List.Sums.{prefix_len-le-length}
-use Rattle.rsml_meaning.specs.EventLines.{Bytes, is_blank, is_empty, before_pieces, pieces, words}
+use Rattle.std.proofs.Common.{◌≡◌, ℕ, zero, suc, ◌+◌, ◌-◌, ◌<◌, ◌≤◌, Bool, true, false, cond, List, [], ◌∷◌, Option, Some, None, length, get_or, take, drop, refl, sym, ap, ◌∙◌, arith, length-drop}
+use Rattle.std.specs.Prelude.{filter, not, position, nat_lt, if◌then◌else◌, ◌==◌}
+use Rattle.std.specs.List.{position_or_len}
+use Rattle.std.specs.Str.{byte}
+use Rattle.std.proofs.lemmas.Bool.{ltb-true, ltb-false}
+use Rattle.std.proofs.lemmas.List.{drop_all, length-take-le}
+use Rattle.std.proofs.lemmas.List.Sums.{prefix_len-le-length, position_or_len_is}
+use Rattle.std.proofs.lemmas.Option.{cond_some}
+use Rattle.memchr.specs.Find.{IsFirstByte}
+use Rattle.rsml_meaning.specs.EventLines.{Bytes, is_blank, is_empty, before_pieces, pieces, words, index_part}
 
 -- how many blanks stand first, and how many bytes before the first blank
 abbrev before_other : Bytes → ℕ
@@ -22,12 +24,20 @@ some_of xs = filter (λ piece. not (is_empty piece)) xs
 pub within : (p : ℕ → Bool) (t : Bytes) → position_or_len p t ≤ length t
 within p t = prefix_len-le-length (λ c. not (p c)) t
 
--- the first place that passes, or the end
-pub found_or_end : (p : ℕ → Bool) (t : Bytes) → unwrap_or (position p t) (length t) ≡ position_or_len p t
-found_or_end p t = elim (cases_lt (position_or_len p t) (length t)) [
-  | inl l ↦ ap (λ b. unwrap_or (cond b (Some (position_or_len p t)) None) (length t)) (lt-ltb (position_or_len p t) (length t) l)
-  | inr u ↦ ap (λ b. unwrap_or (cond b (Some (position_or_len p t)) None) (length t)) (le-ltb (position_or_len p t) (length t) u) ∙ omega (arith, u, within p t)
-]
+not_true : (b : Bool) → (b ≡ true → ⊥) → b ≡ false
+not_true true h = absurd (h refl)
+not_true false h = refl
+
+-- the first byte that passes
+
+pub found_first : (p : ℕ → Bool) (t : Bytes) (k : ℕ) → IsFirstByte p t (Some k) → k ≡ position_or_len p t
+found_first p t k first =
+    let below : k < length t = first.0.high in
+    sym (position_or_len_is p t k 0 (omega (arith, below)) (λ j before. not_true (p (get_or t j 0)) (first.0.before j (omega arith) before)) (λ _. first.1))
+
+pub none_first : (p : ℕ → Bool) (t : Bytes) → IsFirstByte p t None → length t ≡ position_or_len p t
+none_first p t none =
+    sym (position_or_len_is p t (length t) 0 (omega arith) (λ j before. not_true (p (get_or t j 0)) (none j (omega arith) before)) (λ l. absurd (omega (arith, l))))
 
 one_more : (n : ℕ) → 1 + n ≡ suc n
 one_more n = omega arith
@@ -90,18 +100,50 @@ at_other (c ∷ cs) = by (is_blank c) refl (at_other cs)
 kept : (piece : Bytes) (others : List Bytes) → is_empty piece ≡ false → some_of (piece ∷ others) ≡ piece ∷ some_of others
 kept piece others h = ap (λ b. cond (not b) (piece ∷ some_of others) (some_of others)) h
 
-not_empty : (u : Bytes) → false ≡ (length u == 0) → is_empty u ≡ false
-not_empty [] h = sym h
+not_empty : (u : Bytes) → 0 < length u → is_empty u ≡ false
+not_empty [] h = absurd (omega (arith, h))
 not_empty (c ∷ cs) h = refl
 
+-- where the first word begins
+abbrev start : Bytes → Option ℕ
+start t = position (λ c. not (is_blank c)) t
+
+start_is : (t : Bytes) (k : ℕ) → Some k ≡ start t → (k ≡ before_other t) × (k < length t)
+start_is t k h =
+    let p = cond_some (nat_lt (before_other t) (length t)) (before_other t) k (sym h) in
+    let same : before_other t ≡ k = p.1 in
+    let below : before_other t < length t = ltb-true (before_other t) (length t) p.0 in
+    (sym same, omega (arith, same, below))
+
+pub start_within : (t : Bytes) (k : ℕ) → Some k ≡ start t → k ≤ length t
+start_within t k h = let below : k < length t = (start_is t k h).1 in omega (arith, below)
+
 -- nothing but blanks has no word
-pub no_words : (t u : Bytes) → u ≡ drop (before_other t) t → true ≡ (length u == 0) → words t ≡ []
-no_words t u e h = sym (skipped t) ∙ ap words (sym e ∙ nil_from_length u (eqb-true (length u) 0 (sym h)))
+pub no_word : (t : Bytes) → None ≡ start t → words t ≡ []
+no_word t h = by (nat_lt (before_other t) (length t)) refl h
+  where
+    by : (b : Bool) → nat_lt (before_other t) (length t) ≡ b → None ≡ cond b (Some (before_other t)) None → words t ≡ []
+    by true e h = cc
+    by false e h =
+        let past : length t ≤ before_other t = ltb-false (before_other t) (length t) e in
+        sym (skipped t) ∙ ap words (drop_all (before_other t) t past)
 
 -- behind the blanks the first word stands, up to the next blank
-pub next_word : (t u : Bytes) → u ≡ drop (before_other t) t → false ≡ (length u == 0) → words t ≡ take (before_blank u) u ∷ words (drop (before_blank u) u)
-next_word t u e some =
+pub next_word : (t u : Bytes) (k w : ℕ) → Some k ≡ start t → u ≡ drop k t → w ≡ before_blank u → words t ≡ take w u ∷ words (drop w u)
+next_word t u k w h e is =
+    let p = start_is t k h in
+    let below : k < length t = p.1 in
+    let here : u ≡ drop (before_other t) t = e ∙ ap (λ n. drop n t) p.0 in
+    let long : length u ≡ length t - k = ap length e ∙ length-drop k t in
+    let some : is_empty u ≡ false = not_empty u (omega (arith, below, long)) in
     let f = front u in
-    sym (skipped t) ∙ ap words (sym e) ∙ ap some_of f.are
-    ∙ kept (take (before_blank u) u) f.others (some_taken u (not_empty u some) (ap before_other e ∙ at_other t))
+    sym (skipped t) ∙ ap words (sym here) ∙ ap some_of f.are
+    ∙ kept (take (before_blank u) u) f.others (some_taken u some (ap before_other here ∙ at_other t))
     ∙ ap (λ xs. take (before_blank u) u ∷ xs) f.behind
+    ∙ ap (λ n. take n u ∷ words (drop n u)) (sym is)
+
+-- the rest of a word behind its name
+pub index_part_is : (word : Bytes) (n : ℕ) → n ≡ position_or_len (λ c. c == byte "[") word → drop n word ≡ index_part word
+index_part_is word n e =
+    ap (λ k. drop k word) e
+    ∙ sym (ap (λ k. drop k word) (length-take-le (position_or_len (λ c. c == byte "[") word) word (prefix_len-le-length (λ c. not (c == byte "[")) word)))

@@ -1,11 +1,9 @@
 -- What reading an event line answers.
-use Rattle.std.specs.Prelude.{◌≡◌, List, length, take, Some, slice_get, ℤ, Result, MatchResult, IsTrue}
-use Rattle.std.specs.List.{AllZip}
+use Rattle.std.specs.Prelude.{◌≡◌, List, length, take, Some, slice_get, ℤ, Result, MatchResult}
 use Rattle.rsml_syntax.specs.declared.syntax.Spec.{Spec}
-use Rattle.rsml_meaning.specs.Instances.{globals_of}
-use Rattle.rsml_meaning.specs.Cells.{input_type, is_of}
 use Rattle.rsml_meaning.specs.Interfaces.{receives}
 use Rattle.rsml_meaning.specs.EventLines.{LineRule, E1, E2, E3, E4, E5, E6, E7, Message, Outcome, breaks, tells}
+use Rattle.interfaces.specs.Writes.{AreTyped}
 use Rattle.event_lines.specs.declared.line_fault.LineFault.{LineFault}
 use Rattle.event_lines.specs.declared.line_fault.LineFault.TheVariants.{NotUtf8, UnknownInterface, BadIndex, WrongField, ExtraWord, NotAValue, OutOfRange}
 use Rattle.event_lines.specs.declared.received.Received.{Received}
@@ -27,7 +25,7 @@ pub record IsReceived (s : Spec) (o : Outcome) (r : Received) (values : List ℤ
   pub receive : slice_get (receives s) r.interface ≡ Some message.receive
   pub numbers : take (length message.numbers) values ≡ message.numbers
   pub count : length message.numbers ≡ length message.receive.inputs
-  pub typed : AllZip (λ x n. IsTrue (is_of (input_type (globals_of s) x.name) n)) message.receive.inputs message.numbers
+  pub typed : AreTyped s message.receive.inputs message.numbers
 
 -- the answer says what the line comes to
 abbrev pub Says : Spec → Outcome → Result Received LineFault → List ℤ → Type 0

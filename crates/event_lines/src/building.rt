@@ -152,5 +152,6 @@ pub fn forms_of<'a>(
     ensures { IfOk result (λ fs. forms.AreForms decls.now (declared.types_of decls.now) fs.items) }
 {
     let globals = Globals::new(alloc, decls)?;
-    forms_by(alloc, &globals, owners, decls)
+    let forms = forms_by(alloc, &globals, owners, decls)?;
+    Ok(forms)
 }

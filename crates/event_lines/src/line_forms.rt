@@ -1,11 +1,11 @@
-ghost use Rattle.std.specs.Prelude.{◌≡◌, ◌≤◌, IfErr, IfOk, MatchOption, MatchResult, length};
-ghost use Rattle.std.specs.Option.{option_copied};
+ghost use Rattle.std.specs.Prelude.{◌≡◌, ◌≤◌, ◌∷◌, IfErr, IfOk, MatchOption, MatchResult, None, length, slice_get};
+ghost use Rattle.std.specs.Option.{option_and_then, option_copied};
 ghost use Rattle.rsml_meaning.specs.Words.{Each};
 ghost use Rattle.rsml_meaning.specs.Instances.{globals_of};
 ghost use Rattle.rsml_meaning.specs.Interfaces.{receives};
 ghost use Rattle.rsml_meaning.specs.EventLines as lines;
 ghost use Rattle.event_lines.specs.Told.{IsReceived, Says, rule_of};
-ghost use Rattle.event_lines.specs.helpers.Forms.{IsFormOf, fields_in};
+ghost use Rattle.event_lines.specs.helpers.Forms.{IsFormOf, fields_in, fields_of};
 
 use crate::building::{forms_of, value_types};
 use crate::form::Form;
@@ -15,7 +15,7 @@ use crate::owners::Owners;
 use crate::reading::read_fields;
 use crate::received::Received;
 use crate::value_type::ValueType;
-use crate::words::{first_word, name_width};
+use crate::words::{first_word, split_word};
 use rsml_syntax::{Checked, NoMemory, Spec};
 use std::alloc::Global;
 use std::marker::Model;
@@ -48,24 +48,50 @@ impl<'a> Model for LineForms<'a> {
         × AreForms l.spec.now.decls l.types.items l.forms.items };
 }
 
+/// The form at a number.
+fn form_at<'f, 'a>(forms: &'f [Option<Form<'a>>], number: usize) -> Option<&'f Form<'a>>
+    ensures { option_copied result
+        ≡ option_and_then (λ form. form) (slice_get forms.now number) }
+{
+    match forms.get(number) {
+        Some(form) => form.as_ref(),
+        None => None,
+    }
+}
+
+/// The greater of two numbers.
+fn greater(a: usize, b: usize) -> usize
+    ensures first { a ≤ result }
+    ensures second { b ≤ result }
+{
+    if a < b { b } else { a }
+}
+
 /// The most fields of a form.
 fn most_in(forms: &[Option<Form<'_>>]) -> usize
     ensures { Each (λ form. fields_in form ≤ result) forms.now }
 {
     let mut most = 0;
     for form in forms {
-        most = most.max(fields_in(form.as_ref()));
+        most = greater(most, fields_in(form.as_ref()));
     }
     most
 }
 
-/// How many fields a form has, if it has any lines.
+/// How many fields a form has, if there are receives that have them.
+fn count(form: &Form<'_>) -> usize
+    ensures { result ≡ fields_of form.now }
+{
+    if form.many > 0 { form.fields.len() } else { 0 }
+}
+
+/// The same where there may be no form.
 fn fields_in(form: Option<&Form<'_>>) -> usize
     ensures { result ≡ fields_in (option_copied form.entry) }
 {
     match form {
-        Some(form) if form.many > 0 => form.fields.len(),
-        _ => 0,
+        Some(form) => count(form),
+        None => 0,
     }
 }
 
@@ -100,19 +126,23 @@ impl<'a> LineForms<'a> {
         ensures { MatchOption result (lines.interface (globals_of self.now) name.now ≡ None)
             (λ form. IsFormOf self.now name.now form.now) }
     {
-        self.forms.get(self.owners.number(name)?)?.as_ref()
+        let number = self.owners.number(name)?;
+        form_at(self.forms.as_slice(), number)
     }
 
-    /// Reads the words of a line.
-    fn read_words(&self, line: &[u8], values: &mut [i64]) -> Result<Received, LineFault>
+    /// Reads the words of a line, the first of which is given.
+    fn read_instance(
+        &self,
+        word: &[u8],
+        rest: &[u8],
+        values: &mut [i64],
+    ) -> Result<Received, LineFault>
         requires { Each (λ x. length x.inputs ≤ length values.old) (receives self.now) }
-        ensures { Says self.now (lines.read_words (globals_of self.now) (lines.words line.now))
+        ensures { Says self.now
+            (lines.read_words (globals_of self.now) (word.now ∷ lines.words rest.now))
             result values.new }
     {
-        let Some((word, rest)) = first_word(line) else {
-            return Err(LineFault::UnknownInterface);
-        };
-        let (name, index) = word.split_at(name_width(word));
+        let (name, index) = split_word(word);
         let Some(form) = self.form(name) else {
             return Err(LineFault::UnknownInterface);
         };
@@ -124,6 +154,18 @@ impl<'a> LineForms<'a> {
                 interface: form.number(index),
             }),
             Err(fault) => Err(fault),
+        }
+    }
+
+    /// Reads the words of a line.
+    fn read_words(&self, line: &[u8], values: &mut [i64]) -> Result<Received, LineFault>
+        requires { Each (λ x. length x.inputs ≤ length values.old) (receives self.now) }
+        ensures { Says self.now (lines.read_words (globals_of self.now) (lines.words line.now))
+            result values.new }
+    {
+        match first_word(line) {
+            Some((word, rest)) => self.read_instance(word, rest, values),
+            None => Err(LineFault::UnknownInterface),
         }
     }
 

@@ -1,6 +1,7 @@
 ghost use Rattle.std.specs.Prelude.{◌≡◌, ◌++◌, IfOk, OnOk, Some, flat_map, replicate, slice_get, length};
 ghost use Rattle.std.specs.Option.{option_copied, option_map};
 ghost use Rattle.rsml_syntax.specs.rules.Globals.{names_of};
+ghost use Rattle.rsml_syntax.specs.text.Names.{place_of};
 ghost use Rattle.event_lines.specs.helpers.Declared.{declared_by, owners_from};
 
 use rsml_names::{NameList, name_of, values_of};
@@ -96,12 +97,29 @@ impl<'a> Owners<'a> {
         self.decls.len()
     }
 
+    /// The place of a global name.
+    fn place(&self, name: &[u8]) -> Option<usize>
+        ensures { result ≡ place_of name.now (flat_map names_of self.now) }
+    {
+        self.names.find(name)
+    }
+
+    /// The number of the declaration of the global name at a place.
+    fn at(&self, place: usize) -> Option<usize>
+        ensures { result ≡ slice_get (owners_from 0 self.now) place }
+    {
+        self.numbers.get(place).copied()
+    }
+
     /// The number of the declaration of a global name.
     pub fn number(&self, name: &[u8]) -> Option<usize>
         ensures { option_map (λ n. slice_get self.now n) result
             ≡ option_map (λ d. Some d) (declared_by self.now name.now) }
     {
-        self.numbers.get(self.names.find(name)?).copied()
+        match self.place(name) {
+            Some(place) => self.at(place),
+            None => None,
+        }
     }
 
     /// The declaration of a global name.

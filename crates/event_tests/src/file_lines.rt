@@ -41,14 +41,15 @@ fn push_lines<F: Files>(
     text: &mut String,
     forms: &LineForms<'_>,
     files: &mut F,
+    name: &str,
     reader: &mut LineReader,
     values: &mut [i64],
 ) -> Result<(), NoMemory>
-    requires fits { IfSome (F.contents files.old EVENTS.now) (λ content. Fits content reader.old) }
+    requires fits { IfSome (F.contents files.old name.now) (λ content. Fits content reader.old) }
     requires room { Each (λ x. length x.inputs ≤ length values.old) (receives forms.now) }
 {
     for _turn in 0..u64::MAX {
-        match reader.next(files, EVENTS) {
+        match reader.next(files, name) {
             Next::Line => {
                 write!(text, "{} ", reader.number())?;
                 push_line(text, forms, reader.line(), values)?;
@@ -77,7 +78,7 @@ fn read(alloc: Global, forms: &LineForms<'_>, given: Given<'_>) -> Result<String
     let mut files = files(alloc, given)?;
     let mut reader = LineReader::new(alloc, given.limits)?;
     let mut values = room(alloc, forms)?;
-    push_lines(&mut text, forms, &mut files, &mut reader, values.as_mut_slice())?;
+    push_lines(&mut text, forms, &mut files, EVENTS, &mut reader, values.as_mut_slice())?;
     Ok(text)
 }
 

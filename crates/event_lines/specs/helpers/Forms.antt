@@ -84,6 +84,10 @@ pub record IsFormOf (s : Spec) (name : Name) (f : Form) : Type 0 where
       slice_get (receives s) (f.first + (index - 1)) ≡ Some (new_receive (globals s.decls) name interface.inputs interface.raised index)
 
 -- how many fields a form has, if there are receives that have them
+abbrev pub fields_of : Form → ℕ
+fields_of f = if nat_lt 0 f.many then length f.fields.items else 0
+
+-- the same where there may be no form
 abbrev pub fields_in : Option Form → ℕ
 fields_in None = 0
-fields_in (Some f) = if nat_lt 0 f.many then length f.fields.items else 0
+fields_in (Some f) = fields_of f
