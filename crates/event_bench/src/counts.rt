@@ -28,7 +28,10 @@ impl Counts {
     /// Counts an event.
     fn add(&mut self, received: Received, values: &[i64]) {
         self.events = self.events.saturating_add(1);
-        let mut digest = self.digest.wrapping_mul(31).wrapping_add(u64::from(received.interface));
+        let mut digest = self
+            .digest
+            .wrapping_mul(31)
+            .wrapping_add(u64::from(received.interface));
         for value in values {
             digest = digest.wrapping_mul(31).wrapping_add(value.unsigned_abs());
         }

@@ -48,8 +48,14 @@ fn read<R: Files + Clock + Print + AllocGlobal>(
         Err(NoMemory) => return rt.println("out of memory"),
     };
     let (counts, next) = counted;
-    println!(rt; "lines {} events {} faults {} digest {} {}",
-        counts.lines, counts.events, counts.faults, counts.digest, end_name(next))?;
+    println!(rt;
+        "lines {} events {} faults {} digest {} {}",
+        counts.lines,
+        counts.events,
+        counts.faults,
+        counts.digest,
+        end_name(next)
+    )?;
     if timed {
         println!(rt; "nanoseconds {}", start.elapsed(rt).as_nanos())?;
     }

@@ -161,9 +161,9 @@ told_values ts receive vs = by (numbers_in ts vs) ∙ sym (ap (told receive) (al
     by_range ns false = refl
 
     by : (o : Option (List ℤ)) → elim o [
-        | None ↦ breaks E6
-        | Some ns ↦ if list_all (λ x. is_of x.0 x.1) (zip ts ns) then tells (record { receive = receive; numbers = ns }) else breaks E7
-      ] ≡ told receive (behind [] ts o)
+      | None ↦ breaks E6
+      | Some ns ↦ if list_all (λ x. is_of x.0 x.1) (zip ts ns) then tells (record { receive = receive; numbers = ns }) else breaks E7
+    ] ≡ told receive (behind [] ts o)
     by None = refl
     by (Some ns) = by_range ns (list_all (λ x. is_of x.0 x.1) (zip ts ns))
 
@@ -173,8 +173,8 @@ pub fields_come_to : (g : Globals) (ms : List Mention) (receive : ReceiveInstanc
 fields_come_to g ms receive ws =
     by (fields (map (λ m. m.name) ms) ws)
     ∙ sym (ap (told receive) (found_first (map (listed g) ms) ws (Ok [])
-      ∙ ap (λ (ts : List InputType). by_fields (joined (Ok []) ts) (fields (names_of (map (listed g) ms)) ws)) (listed_types g ms)
-      ∙ ap (λ (ns : List Name). by_fields (joined (Ok []) types) (fields ns ws)) (listed_names g ms)))
+    ∙ ap (λ (ts : List InputType). by_fields (joined (Ok []) ts) (fields (names_of (map (listed g) ms)) ws)) (listed_types g ms)
+    ∙ ap (λ (ns : List Name). by_fields (joined (Ok []) types) (fields ns ws)) (listed_names g ms)))
   where
     types : List InputType
     types = map (input_type g) (map (λ m. m.name) ms)

@@ -180,7 +180,7 @@ module _ (s : Spec) (name : Name) where
   receive_form : (n : ℕ) (nm : Name) (size : Option Amount) (inputs : List Mention) (raised : Mention) (f : Form) → FormAt n (decl.Receive nm size inputs raised) (Some f) → IsFormOf s name f
   receive_form n nm size inputs raised f a =
       let same : written (types_of s.decls) f ≡ record { first = length (flat_map (receives_of g) (take n s.decls)); many = many g size; is_array = is_some size; fields = map (listed g) inputs } =
-          same_Some _ _ a.is in
+      same_Some _ _ a.is in
       let arrays : f.is_array ≡ is_some size = ap (λ (w : Written). w.is_array) same in
       let sizes : f.many ≡ many g size = ap (λ (w : Written). w.many) same in
       let firsts : f.first ≡ length (flat_map (receives_of g) (take n s.decls)) = ap (λ (w : Written). w.first) same in
@@ -194,9 +194,9 @@ module _ (s : Spec) (name : Name) where
         there = λ text index told.
             ap (λ k. slice_get (receives s) (k + (index - 1))) firsts
             ∙ receive_at g s.decls n (index - 1) (decl.Receive nm size inputs raised) (new_receive g nm inputs raised index) a.there
-              (slice_get-map (new_receive g nm inputs raised) (indices g size) (index - 1)
-              ∙ ap (option_map (new_receive g nm inputs raised))
-                (told_index g size text index (sym (ap (λ b. index_of b (many g size) text) arrays) ∙ sym (ap (λ k. index_of f.is_array k text) sizes) ∙ told)))
+            (slice_get-map (new_receive g nm inputs raised) (indices g size) (index - 1)
+            ∙ ap (option_map (new_receive g nm inputs raised))
+            (told_index g size text index (sym (ap (λ b. index_of b (many g size) text) arrays) ∙ sym (ap (λ k. index_of f.is_array k text) sizes) ∙ told)))
             ∙ ap (λ z. Some (new_receive g z inputs raised index)) (own_name nm size inputs raised a.declares);
       }
 
@@ -233,13 +233,15 @@ module _ (s : Spec) (name : Name) where
 
     form_at : (o : Option Form) → slice_get forms n ≡ Some o → (d : Decl) × FormAt n d o
     form_at o h =
-        let d = the_decl in
-        (d.0, record {
-          there = d.1.0;
-          declares = d.1.1;
-          is = ap (λ (ts : List InputType). option_map (written ts) o) (sym a.types_are) ∙ same_Some _ _ (sym (ap (option_map (option_map (written types))) h) ∙ written_at d.0 d.1.0);
-          within = each_at (IsWithin (length s.decls + 1)) forms n o a.within h;
-        })
+        let d = the_decl in (
+          d.0,
+          record {
+            there = d.1.0;
+            declares = d.1.1;
+            is = ap (λ (ts : List InputType). option_map (written ts) o) (sym a.types_are) ∙ same_Some _ _ (sym (ap (option_map (option_map (written types))) h) ∙ written_at d.0 d.1.0);
+            within = each_at (IsWithin (length s.decls + 1)) forms n o a.within h;
+          },
+        )
 
     -- the form at the number is that of the receive of the name
     pub is_form : (f : Form) → slice_get forms n ≡ Some (Some f) → IsFormOf s name f

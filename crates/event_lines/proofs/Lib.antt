@@ -2,7 +2,6 @@ pub mod WordLemmas
 pub mod BracketLemmas
 pub mod DigitLemmas
 pub mod OwnerLemmas
-pub mod TypeLemmas
 pub mod FieldLemmas
 pub mod FormLemmas
 pub mod LineLemmas

@@ -29,7 +29,6 @@ use Rattle.event_lines.proofs.FormLemmas.{index_told, each_at}
 
 -- The words, by the form of the receive.
 
-
 module _ (s : Spec) (word : lines.Bytes) (ws : List lines.Bytes) where
   abbrev g : Globals
   g = globals_of s
@@ -51,9 +50,9 @@ module _ (s : Spec) (word : lines.Bytes) (ws : List lines.Bytes) where
     at_index o e =
         ap by_interface (ap (lines.interface g) (sym name_is) ∙ form.named)
         ∙ ap by_index (index_told g form.interface.size (lines.index_part word)
-          ∙ sym (ap (λ b. index_of b (many g form.interface.size) (lines.index_part word)) form.is_array)
-          ∙ sym (ap (λ n. index_of f.is_array n (lines.index_part word)) form.many)
-          ∙ sym (ap (index_of f.is_array f.many) index_is) ∙ sym e)
+        ∙ sym (ap (λ b. index_of b (many g form.interface.size) (lines.index_part word)) form.is_array)
+        ∙ sym (ap (λ n. index_of f.is_array n (lines.index_part word)) form.many)
+        ∙ sym (ap (index_of f.is_array f.many) index_is) ∙ sym e)
 
     pub bad_index_breaks : None ≡ index_of f.is_array f.many index_text → lines.read_words g (word ∷ ws) ≡ lines.breaks lines.E3
     bad_index_breaks h = at_index None h

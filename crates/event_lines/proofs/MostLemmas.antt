@@ -34,7 +34,6 @@ most_more xs i x n m h e low high each =
 
 -- the receives of a declaration
 
-
 each_made : (n : ℕ) (g : Globals) (name : Name) (inputs : List Mention) (raised : _) (is : List ℕ) → length inputs ≤ n → Each (λ x. length x.inputs ≤ n) (map (new_receive g name inputs raised) is)
 each_made n g name inputs raised [] h = tt
 each_made n g name inputs raised (i ∷ is) h = (omega (arith, h, length-map inputs (instance g (within i))), each_made n g name inputs raised is h)

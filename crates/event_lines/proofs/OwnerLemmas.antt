@@ -35,7 +35,7 @@ owners_behind front (d ∷ ds) all n e l =
     let later = owners_behind (front ++ (d ∷ [])) ds all (n + 1) (e ∙ sym (append_assoc front (d ∷ []) ds)) (ap (λ k. k + 1) l ∙ sym (length_push front d)) in
     map-append (λ k. slice_get all k) (replicate (length (names_of d)) n) (owners_from (n + 1) ds)
     ∙ ap (λ (ys : List (Option Decl)). ys ++ map (λ k. slice_get all k) (owners_from (n + 1) ds))
-      (map_replicate (λ k. slice_get all k) (length (names_of d)) n ∙ ap (replicate (length (names_of d))) here ∙ sym (known_decl d))
+    (map_replicate (λ k. slice_get all k) (length (names_of d)) n ∙ ap (replicate (length (names_of d))) here ∙ sym (known_decl d))
     ∙ ap (λ (ys : List (Option Decl)). map decl_of (known_by d) ++ ys) later
     ∙ sym (map-append decl_of (known_by d) (flat_map known_by ds))
 

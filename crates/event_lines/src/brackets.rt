@@ -17,5 +17,9 @@ pub fn in_brackets(text: &[u8]) -> Option<&[u8]>
     ensures { option_copied result ≡ in_brackets text.now }
 {
     let (first, rest) = text.split_first()?;
-    if *first == b'[' { before_close(rest) } else { None }
+    if *first == b'[' {
+        before_close(rest)
+    } else {
+        None
+    }
 }

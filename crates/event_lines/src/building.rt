@@ -16,10 +16,7 @@ use rsml_syntax::{Amount, Decl, Mention, NoMemory, Text};
 use std::alloc::Global;
 
 /// The types of declarations, and at last that of what is no type.
-pub fn value_types<'a>(
-    alloc: Global,
-    decls: &'a [Decl],
-) -> Result<Vec<ValueType<'a>>, NoMemory>
+pub fn value_types<'a>(alloc: Global, decls: &'a [Decl]) -> Result<Vec<ValueType<'a>>, NoMemory>
     ensures { IfOk result (λ types. types.items ≡ declared.types_of decls.now) }
 {
     let mut types = Vec::new(alloc);

@@ -87,12 +87,12 @@ fn read_word<'w>(
     requires room { place < length values.old }
     ensures { MatchResult result
         (λ left. (fs : List TypedField) →
-            spec.field_numbers (field_of types.now field.entry ∷ fs) (word.now ∷ words more.now)
-                (spec.kept fault.old (take place values.old))
-            ≡ spec.field_numbers fs (words left.now) (spec.kept fault.new (take (place + 1) values.new)))
+        spec.field_numbers (field_of types.now field.entry ∷ fs) (word.now ∷ words more.now)
+        (spec.kept fault.old (take place values.old))
+        ≡ spec.field_numbers fs (words left.now) (spec.kept fault.new (take (place + 1) values.new)))
         (λ e. (fs : List TypedField) →
-            spec.field_numbers (field_of types.now field.entry ∷ fs) (word.now ∷ words more.now)
-                (spec.kept fault.old (take place values.old)) ≡ Err e) }
+        spec.field_numbers (field_of types.now field.entry ∷ fs) (word.now ∷ words more.now)
+        (spec.kept fault.old (take place values.old)) ≡ Err e) }
 {
     match value_text(field.name, word) {
         Some(text) => {
@@ -116,12 +116,12 @@ fn read_field<'w>(
     requires room { place < length values.old }
     ensures { MatchResult result
         (λ left. (fs : List TypedField) →
-            spec.field_numbers (field_of types.now field.entry ∷ fs) (words rest.now)
-                (spec.kept fault.old (take place values.old))
-            ≡ spec.field_numbers fs (words left.now) (spec.kept fault.new (take (place + 1) values.new)))
+        spec.field_numbers (field_of types.now field.entry ∷ fs) (words rest.now)
+        (spec.kept fault.old (take place values.old))
+        ≡ spec.field_numbers fs (words left.now) (spec.kept fault.new (take (place + 1) values.new)))
         (λ e. (fs : List TypedField) →
-            spec.field_numbers (field_of types.now field.entry ∷ fs) (words rest.now)
-                (spec.kept fault.old (take place values.old)) ≡ Err e) }
+        spec.field_numbers (field_of types.now field.entry ∷ fs) (words rest.now)
+        (spec.kept fault.old (take place values.old)) ≡ Err e) }
 {
     match first_word(rest) {
         Some((word, more)) => read_word(types, field, word, more, values, fault, place),
@@ -140,9 +140,9 @@ pub fn read_fields(
     requires room { length fields.now ≤ length values.old }
     ensures { MatchResult result
         (λ _. spec.field_numbers (map (field_of types.now) fields.now) (words text.now) (Ok [])
-            ≡ Ok (take (length fields.now) values.new))
+        ≡ Ok (take (length fields.now) values.new))
         (λ fault. spec.field_numbers (map (field_of types.now) fields.now) (words text.now) (Ok [])
-            ≡ Err fault) }
+        ≡ Err fault) }
 {
     let mut fault = None;
     let mut rest = text;

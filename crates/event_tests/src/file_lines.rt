@@ -78,7 +78,14 @@ fn read(alloc: Global, forms: &LineForms<'_>, given: Given<'_>) -> Result<String
     let mut files = files(alloc, given)?;
     let mut reader = LineReader::new(alloc, given.limits)?;
     let mut values = room(alloc, forms)?;
-    push_lines(&mut text, forms, &mut files, EVENTS, &mut reader, values.as_mut_slice())?;
+    push_lines(
+        &mut text,
+        forms,
+        &mut files,
+        EVENTS,
+        &mut reader,
+        values.as_mut_slice(),
+    )?;
     Ok(text)
 }
 

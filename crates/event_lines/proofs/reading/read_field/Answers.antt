@@ -9,9 +9,9 @@ use Rattle.event_lines.proofs.reading.read_field.Goals as goal
 pub returns-in-Some : goal.returns-in-Some
 returns-in-Some c =
     subst (λ (ws : List Bytes). MatchResult c.read_word.result
-      (λ left. (fs : List TypedField) → field_numbers (field_of c.args.types.now c.args.field ∷ fs) ws (kept c.args.fault.now (take c.args.place c.args.values.now))
-        ≡ field_numbers fs (words left.now) (kept c.read_word.new.fault (take (c.args.place + 1) c.read_word.new.values)))
-      (λ e. (fs : List TypedField) → field_numbers (field_of c.args.types.now c.args.field ∷ fs) ws (kept c.args.fault.now (take c.args.place c.args.values.now)) ≡ Err e))
+    (λ left. (fs : List TypedField) → field_numbers (field_of c.args.types.now c.args.field ∷ fs) ws (kept c.args.fault.now (take c.args.place c.args.values.now))
+    ≡ field_numbers fs (words left.now) (kept c.read_word.new.fault (take (c.args.place + 1) c.read_word.new.values)))
+    (λ e. (fs : List TypedField) → field_numbers (field_of c.args.types.now c.args.field ∷ fs) ws (kept c.args.fault.now (take c.args.place c.args.values.now)) ≡ Err e))
     (sym c.in-Some.ensures) c.read_word.ensures
 
 pub returns-in-None : goal.returns-in-None
