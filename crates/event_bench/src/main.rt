@@ -42,7 +42,7 @@ fn read<R: Files + Clock + Print + AllocGlobal>(
     file: &str,
     timed: bool,
 ) -> io::Result<()> {
-    let start = Instant::now(rt);
+    let start = Instant::now(rt)?;
     let counted = match measure(rt.alloc(), checked, &mut OsFiles::new(rt), file) {
         Ok(counted) => counted,
         Err(NoMemory) => return rt.println("out of memory"),
@@ -57,7 +57,7 @@ fn read<R: Files + Clock + Print + AllocGlobal>(
         end_name(next)
     )?;
     if timed {
-        println!(rt; "nanoseconds {}", start.elapsed(rt).as_nanos())?;
+        println!(rt; "nanoseconds {}", start.elapsed(rt)?.as_nanos())?;
     }
     Ok(())
 }
