@@ -2,14 +2,14 @@
 #![tactic(auto)]
 
 #[cfg(test)]
-mod event_files;
-#[cfg(test)]
-mod event_lines;
-#[cfg(test)]
 mod file_lines;
 #[cfg(test)]
 mod line_texts;
 #[cfg(test)]
 mod reading;
 #[cfg(test)]
+mod single_lines;
+#[cfg(test)]
 mod specifications;
+#[cfg(test)]
+mod whole_files;
