@@ -164,16 +164,16 @@ fn simple(f: u32, g: u32, h: u32) -> Option<u32>
     }
 }
 
-/// The same choice, with the operands of a conjunction or a disjunction in the order of their
-/// places.
+/// The same choice, where the first operand of a conjunction or a disjunction is the one that stands
+/// later in the arena.
 #[inline(always)]
 fn ordered(f: u32, g: u32, h: u32) -> (u32, u32, u32)
     ensures { (d : Diagram) → IsRef d f → IsRef d g → IsRef d h
         → IsSameChoice d f g h result.0 result.1 result.2 }
 {
-    if h == FALSE && g < f {
+    if h == FALSE && f < g {
         (g, f, h)
-    } else if g == TRUE && h < f {
+    } else if g == TRUE && f < h {
         (h, g, f)
     } else {
         (f, g, h)
