@@ -9,4 +9,5 @@ pub mod GrowthLemmas
 pub mod CallLemmas
 pub mod BoundLemmas
 pub mod SweepLemmas
-pub mod KeptLemmas
+pub mod ChainLemmas
+mod KeptLemmas

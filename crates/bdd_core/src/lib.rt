@@ -7,6 +7,7 @@ mod computed;
 mod marks;
 mod node;
 mod reference;
+mod unique;
 
 pub use arena::Arena;
 pub use branch::Branch;

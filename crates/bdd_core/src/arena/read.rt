@@ -19,7 +19,7 @@ impl Arena {
     {
         let mut at = self.place(f);
         while at > 1 {
-            let node = self.nodes[at as usize];
+            let node = self.nodes.node(at as usize);
             at = if values[node.level as usize] {
                 node.high
             } else {
@@ -35,7 +35,7 @@ impl Arena {
         ensures constant { IsNone result ↔ IsConstant self.now f }
         ensures node { IfSome result (λ branch. IsBranch self.now f branch) }
     {
-        let node = self.nodes[f.place];
+        let node = self.nodes.node(f.place);
         if f.place < 2 {
             return None;
         }
@@ -83,7 +83,7 @@ impl Arena {
         ensures tells { (k : ℕ) → slice_index_or seen.new.items k false ≡ true
             → ((k ≢ at) × (slice_index_or seen.old.items k false ≡ true)) ⊎ (IsChild self.now at k) }
     {
-        let node = self.nodes[at];
+        let node = self.nodes.node(at);
         seen[at] = false;
         if at > 1 {
             seen[node.low as usize] = true;
