@@ -10,4 +10,5 @@ pub mod CallLemmas
 pub mod BoundLemmas
 pub mod SweepLemmas
 pub mod ChainLemmas
+pub mod ForgetLemmas
 mod KeptLemmas

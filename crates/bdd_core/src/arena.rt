@@ -5,6 +5,7 @@ ghost use Rattle.bdd_core.specs.Calls.{Represents};
 
 mod choose;
 mod cut;
+mod forget;
 mod nodes;
 mod read;
 

@@ -40,6 +40,11 @@ impl Computed {
         }
     }
 
+    /// What it takes its memory from.
+    pub(crate) fn allocator(&self) -> Global {
+        *self.slots.allocator()
+    }
+
     /// The answer to a question, if it is kept.
     #[inline(always)]
     pub(crate) fn find(&self, f: u32, g: u32, h: u32) -> Option<u32>

@@ -1,6 +1,7 @@
 //! Reduced ordered binary decision diagrams, all in one arena: equal functions have equal handles.
 #![tactic(auto)]
 
+mod answers;
 mod arena;
 mod branch;
 mod computed;

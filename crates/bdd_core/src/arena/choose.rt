@@ -86,7 +86,7 @@ impl Arena {
     }
 
     /// It calls itself once a level.
-    fn choose(&mut self, f: u32, g: u32, h: u32) -> Result<u32, NoMemory>
+    pub(super) fn choose(&mut self, f: u32, g: u32, h: u32) -> Result<u32, NoMemory>
         requires f_ref { IsRef self.old f }
         requires g_ref { IsRef self.old g }
         requires h_ref { IsRef self.old h }
