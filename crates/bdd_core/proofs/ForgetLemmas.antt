@@ -47,23 +47,25 @@ module _ (F L H : (ℕ → Bool) → Bool) (t : ℕ) (levels : List ℕ) (split 
   at_false : (u : ℕ → Bool) → u t ≡ false → F u ≡ L u
   at_false u e = split u ∙ same_choice _ _ _ _ _ _ e refl refl
 
-  -- a node whose level is forgotten
+  -- a node whose level is forgotten is true where its low child is
+  off-low : is_in levels t ≡ true → ((v : ℕ → Bool) (b : Bool) → L (with_value v t b) ≡ L v) → (v : ℕ → Bool) → TrueOff L levels v → TrueOff F levels v
+  off-low is blind_low v s = record {
+    other = with_value s.other t false;
+    agree = agree_in levels t s.other v false is s.agree;
+    holds = at_false (with_value s.other t false) (with_value-same s.other t false) ∙ blind_low s.other false ∙ s.holds;
+  }
+
+  -- and where one of them is
   off-in : is_in levels t ≡ true → ((v : ℕ → Bool) (b : Bool) → L (with_value v t b) ≡ L v) → ((v : ℕ → Bool) (b : Bool) → H (with_value v t b) ≡ H v)
       → (v : ℕ → Bool) (p q : Bool) → ((p ≡ true) ↔ TrueOff L levels v) → ((q ≡ true) ↔ TrueOff H levels v) → ((if p then true else q) ≡ true) ↔ TrueOff F levels v
   off-in is blind_low blind_high v p q ip iq = (
     λ e. elim (some_value p q e) [
-      | inl ep ↦ low (ip.0 ep)
+      | inl ep ↦ off-low is blind_low v (ip.0 ep)
       | inr eq ↦ high (iq.0 eq)
     ],
     λ s. back s (s.other t) refl,
   )
     where
-      low : TrueOff L levels v → TrueOff F levels v
-      low s = record {
-        other = with_value s.other t false;
-        agree = agree_in levels t s.other v false is s.agree;
-        holds = at_false (with_value s.other t false) (with_value-same s.other t false) ∙ blind_low s.other false ∙ s.holds;
-      }
       high : TrueOff H levels v → TrueOff F levels v
       high s = record {
         other = with_value s.other t true;
@@ -165,6 +167,23 @@ without-node a b c d is f top fl fh lo hi r levels forgotten pf at test ch ab lo
         (λ u b. unseen a is fl top b u ch.low_ref ch.low_level) (λ u b. unseen a is fh top b u ch.high_ref ch.high_level) v p q ip iq)
     by v p q x ip iq false e is_x = iff-at x (if v top then q else p) (TrueOff (meaning a f) levels v) is_x
         (off-out (meaning a f) (meaning a fl) (meaning a fh) top levels ch.means (sym e) v p q ip iq)
+
+-- a node whose level is forgotten and of whose low child nothing but true is left
+pub without-true : (a b : Diagram) → IsReduced a → (f top fl fh low : ℕ) (levels : List ℕ) → IsRef a f → 2 ≤ f → level_of a f ≡ top → is_in levels top ≡ true → IsChildren a f top fl fh
+    → Keeps a b → IsWithout b fl levels low → low ≡ 1 → IsWithout b f levels 1
+without-true a b is f top fl fh low levels pf two at test ch ab left e =
+    let w : IsWithout b fl levels 1 = subst (IsWithout b fl levels) e left in
+    let one : IsRef a 1 = omega (arith, pf) in
+    record {
+      is_ref = w.is_ref;
+      means = λ v. (
+        λ _. off-same (meaning a f) (meaning b f) levels v (λ u. sym (ab.meanings_stay f u pf))
+            (off-low (meaning a f) (meaning a fl) (meaning a fh) top levels ch.means test (λ u b. unseen a is fl top b u ch.low_ref ch.low_level) v
+            (off-same (meaning b fl) (meaning a fl) levels v (λ u. ab.meanings_stay fl u ch.low_ref) ((w.means v).0 (meaning-true b v)))),
+        λ _. meaning-true b v,
+      );
+      level_most = omega (arith, level-keeps a b ab f pf, level-keeps a b ab 1 one, is.true_level, (is.reduced f two pf).level_fits);
+    }
 
 -- the two ways to join what is left of the children
 pub joined-choice : (c d : Diagram) → Keeps c d → (level low high r : ℕ) → IsRef c 1 → IsRef c low → IsRef c high → level < level_of c 1 → level < level_of c low → level < level_of c high

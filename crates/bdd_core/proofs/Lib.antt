@@ -10,5 +10,6 @@ pub mod CallLemmas
 pub mod BoundLemmas
 pub mod SweepLemmas
 pub mod ChainLemmas
+pub mod SupportLemmas
 pub mod ForgetLemmas
 mod KeptLemmas

@@ -66,3 +66,7 @@ pub record TrueOff (function : (ℕ → Bool) → Bool) (levels : List ℕ) (val
 pub record IsForgotten (old new : Diagram) (f : ℕ) (levels : List ℕ) (r : ℕ) : Type 0 where
   pub is_ref : IsRef new r
   pub means : (values : ℕ → Bool) → (meaning new r values ≡ true) ↔ TrueOff (meaning old f) levels values
+
+-- the function of f does not depend on the level
+abbrev pub Ignores : Diagram → ℕ → ℕ → Type 0
+Ignores d f level = (values : ℕ → Bool) (value : Bool) → meaning d f (with_value values level value) ≡ meaning d f values

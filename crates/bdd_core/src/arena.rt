@@ -8,6 +8,7 @@ mod cut;
 mod forget;
 mod nodes;
 mod read;
+mod support;
 
 use crate::computed::Computed;
 use crate::node::{FALSE, TRUE};

@@ -53,8 +53,13 @@ impl Arena {
         }
         let (f_low, f_high) = self.children(f, top);
         let low = self.without(f_low, levels, last, answers)?;
-        let high = self.without(f_high, levels, last, answers)?;
         let forgotten = levels.contains(&top);
+        if forgotten && low == TRUE {
+            answers.make_room();
+            answers.keep(f, TRUE);
+            return Ok(TRUE);
+        }
+        let high = self.without(f_high, levels, last, answers)?;
         let answer = self.joined(top, low, high, forgotten)?;
         answers.make_room();
         answers.keep(f, answer);

@@ -69,7 +69,7 @@ impl Arena {
     }
 
     /// Takes the mark of a place, and marks its children.
-    fn unmark(&self, at: usize, seen: &mut Vec<bool>)
+    pub(super) fn unmark(&self, at: usize, seen: &mut Vec<bool>)
         requires place { at < length seen.old.items }
         requires in_arena { IsRef self.now at }
         requires marked { slice_get seen.old.items at ≡ Some true }
