@@ -2,7 +2,7 @@
 use Rattle.std.proofs.Common.{◌≡◌, ◌≢◌, ℕ, ◌+◌, ◌<◌, ◌≤◌, List, [], ◌∷◌, ◌++◌, map, length, get_or, set, replicate, refl, sym, ap, subst, ◌∙◌, arith, ◌⊎◌, inl, inr, Option, Some, None, IfNone, Bool, true, false, ◌&&◌, eqb, eq-eqb, true≢false}
 use Rattle.std.specs.Cmp.Derive.{both_true}
 use Rattle.std.proofs.lemmas.Bool.{cases_lt, cases_eq}
-use Rattle.std.proofs.lemmas.List.{get_or-set_same, get_or-set_other, get_or_append_left, get_or-replicate, get_or_past, length-replicate, map-set, set-get_or, get_or-map, length-map}
+use Rattle.std.proofs.lemmas.List.{get_or-set_same, get_or-set_other, get_or_append_left, get_or-replicate, map-set, set-get_or, get_or-map, length-map}
 use Rattle.bdd_core.specs.declared.node.Node.{Node}
 use Rattle.bdd_core.specs.declared.unique.chains.Entry.{Entry}
 use Rattle.bdd_core.specs.Diagram.{no_node}
@@ -66,10 +66,12 @@ module _ (entries : List Entry) (heads : List ℕ) (buckets place bucket : ℕ) 
   elsewhere k ne = get_or-set_other entries place k (record { node = node_of (entry_at entries place); next = get_or heads bucket 0 }) (record { node = no_node; next = 0 }) ne
 
   same_nodes : (end : ℕ) → SameNodes entries linked end
-  same_nodes end = record { same = λ k less. elim (cases_eq k place) [
-    | inl e ↦ ap (λ j. node_of (entry_at linked j)) e ∙ ap node_of here ∙ ap (λ j. node_of (entry_at entries j)) (sym e)
-    | inr ne ↦ ap node_of (elsewhere k ne)
-  ] }
+  same_nodes end = record {
+    same = λ k less. elim (cases_eq k place) [
+      | inl e ↦ ap (λ j. node_of (entry_at linked j)) e ∙ ap node_of here ∙ ap (λ j. node_of (entry_at entries j)) (sym e)
+      | inr ne ↦ ap node_of (elsewhere k ne)
+    ];
+  }
 
   same_bucket : (k : ℕ) → bucket_at linked buckets k ≡ bucket_at entries buckets k
   same_bucket k = ap (bucket_of buckets) ((same_nodes (k + 1)).same k (omega arith))
@@ -133,6 +135,7 @@ link-reads entries heads place bucket next node within fits en eb ex l =
     let e : entry_of node next ≡ entry_of (node_of (entry_at entries place)) (get_or heads bucket 0) = λ i. record { node = en i; next = ex i } in
     subst (λ (e : Entry). AreLinked (set entries place e) (set heads bucket place) (length heads) (place + 1)) (sym e)
     (link-linked entries heads (length heads) place bucket within fits (eb ∙ ap (bucket_of (length heads)) en) l fits)
+
 -- how far a walk along the chain of a node's bucket has come: each place of the node is still ahead
 pub record IsAhead (entries : List Entry) (buckets : ℕ) (node : Node) (at : ℕ) : Type 0 where
   pub within : at < length entries

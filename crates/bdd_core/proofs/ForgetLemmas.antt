@@ -1,6 +1,6 @@
 -- A function without some of its levels: one that has none of them, a node over what is left of its children, and the answers that are kept.
-use Rattle.std.proofs.Common.{◌≡◌, ◌≢◌, ◌↔◌, ℕ, zero, suc, ◌<◌, ◌≤◌, Bool, true, false, ◌||◌, List, [], ◌∷◌, if◌then◌else◌, length, get_or, refl, sym, ap, subst, ◌∙◌, arith, ◌⊎◌, inl, inr, true≢false, Contains, eqb}
-use Rattle.std.proofs.lemmas.Bool.{cases_lt, eqb-true}
+use Rattle.std.proofs.Common.{◌≡◌, ◌↔◌, ℕ, zero, suc, ◌<◌, ◌≤◌, Bool, true, false, ◌||◌, List, [], ◌∷◌, if◌then◌else◌, length, get_or, refl, sym, ap, subst, ◌∙◌, arith, ◌⊎◌, inl, inr, true≢false, eqb}
+use Rattle.std.proofs.lemmas.Bool.{eqb-true}
 use Rattle.bdd_core.specs.declared.computed.Kept.{Kept}
 use Rattle.bdd_core.specs.Diagram.{Diagram, IsRef, level_of, meaning, IsReduced}
 use Rattle.bdd_core.specs.Calls.{Keeps, with_value, is_in, AgreeOff, TrueOff, IsForgotten}
@@ -72,6 +72,7 @@ module _ (F L H : (ℕ → Bool) → Bool) (t : ℕ) (levels : List ℕ) (split 
         agree = agree_in levels t s.other v true is s.agree;
         holds = at_true (with_value s.other t true) (with_value-same s.other t true) ∙ blind_high s.other true ∙ s.holds;
       }
+
       back : (s : TrueOff F levels v) (b : Bool) → s.other t ≡ b → (if p then true else q) ≡ true
       back s true e = by_other p q (iq.1 (record { other = s.other; agree = s.agree; holds = sym (at_true s.other e) ∙ s.holds }))
       back s false e = by_one p q (ip.1 (record { other = s.other; agree = s.agree; holds = sym (at_false s.other e) ∙ s.holds }))
@@ -98,6 +99,7 @@ greatest-most levels last all = record { most = most levels all }
     or_cases : (a b : Bool) → (a || b) ≡ true → (a ≡ true) ⊎ (b ≡ true)
     or_cases true b e = inl refl
     or_cases false b e = inr e
+
     most : (levels : List ℕ) → ((k : ℕ) → k < length levels → get_or levels k 0 ≤ last) → (level : ℕ) → is_in levels level ≡ true → level ≤ last
     most [] all level e = absurd (true≢false (sym e))
     most (l ∷ ls) all level e = elim (or_cases (eqb l level) (is_in ls level) e) [
@@ -137,6 +139,7 @@ without-after d is f levels last p g after = record {
     by : (x : ℕ) → level_of d f ≤ x → (b : Bool) → is_in levels x ≡ b → is_in levels x ≡ false
     by x at true e = absurd (omega (arith, g.most x e))
     by x at false e = e
+
     out : (x : ℕ) → level_of d f ≤ x → is_in levels x ≡ false
     out x at = by x at (is_in levels x) refl
 

@@ -1,5 +1,5 @@
 -- An arena holds from its beginning, and after a node is put in.
-use Rattle.std.proofs.Common.{◌≡◌, ◌≢◌, ℕ, zero, suc, ◌<◌, ◌≤◌, ◌^◌, List, [], ◌∷◌, ◌++◌, length, refl, sym, ap, subst, ◌∙◌, arith, ◌⊎◌, inl, inr, length-append, slice_get, Some, eqb}
+use Rattle.std.proofs.Common.{◌≡◌, ◌≢◌, ℕ, zero, suc, ◌<◌, ◌≤◌, List, [], ◌∷◌, ◌++◌, length, refl, sym, ap, subst, ◌∙◌, arith, inl, inr, length-append, slice_get, Some, eqb}
 use Rattle.std.proofs.Math.ListN.{get_or-append}
 use Rattle.std.proofs.Math.Seq.{get_or-append_seam}
 use Rattle.std.proofs.lemmas.Bool.{cases_lt}
@@ -109,10 +109,12 @@ once-push d t is fit fresh f g hf hg same = elim (cases_lt f (length d.nodes)) [
   where
     kept : (k : ℕ) → IsRef d k → node_at (with_nodes d (d.nodes ++ t ∷ [])) k ≡ node_at d k
     kept k h = get_or-append d.nodes (t ∷ []) no_node k h
+
     last : (k : ℕ) → length d.nodes ≤ k → k < length (d.nodes ++ t ∷ []) → node_at (with_nodes d (d.nodes ++ t ∷ [])) k ≡ t
     last k from to =
         let at : k ≡ length d.nodes = omega (arith, length-append d.nodes (t ∷ [])) in
         ap (λ k. node_at (with_nodes d (d.nodes ++ t ∷ [])) k) at ∙ get_or-append_seam d.nodes t [] no_node
+
     -- it is none of the nodes, and no constant, whose level is greater
     other : (k : ℕ) → IsRef d k → node_at d k ≢ t
     other zero h e = absurd (omega (arith, fit.fits, is.false_level, ap (λ (t : Node). t.level) e))

@@ -1,5 +1,5 @@
 -- A function does not depend on a level that no node of its diagram has, and a sweep that sets the levels that it comes past.
-use Rattle.std.proofs.Common.{◌≡◌, ◌≢◌, ℕ, zero, suc, ◌+◌, ◌<◌, ◌≤◌, Bool, true, false, List, length, get_or, set, sym, ap, subst, ◌∙◌, arith, inl, inr, true≢false}
+use Rattle.std.proofs.Common.{◌≡◌, ◌≢◌, ℕ, zero, suc, ◌+◌, ◌<◌, ◌≤◌, Bool, true, false, List, get_or, sym, ap, subst, ◌∙◌, arith, inl, inr, true≢false}
 use Rattle.std.proofs.lemmas.Bool.{cases_eq}
 use Rattle.bdd_core.specs.Diagram.{Diagram, IsRef, node_at, level_of, meaning, IsReduced, IsReducedNode}
 use Rattle.bdd_core.specs.Reach.{Reaches}

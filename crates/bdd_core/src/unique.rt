@@ -39,7 +39,10 @@ impl Unique {
     pub(crate) fn new(alloc: Global, levels: u32) -> Result<Unique, NoMemory>
         ensures { IfOk result (λ unique. unique ≡ constant_at levels 0 ∷ constant_at levels 1 ∷ []) }
     {
-        let entries = vec![in alloc; Entry::constant(levels, FALSE), Entry::constant(levels, TRUE)]?;
+        let entries = vec![in alloc;
+            Entry::constant(levels, FALSE),
+            Entry::constant(levels, TRUE),
+        ]?;
         let heads = vec![in alloc; 0; FIRST_BUCKETS]?;
         Ok(Unique { entries, heads })
     }

@@ -1,5 +1,5 @@
 -- Each round goes on to the next place of the bucket.
-use Rattle.std.proofs.Common.{◌≢◌, ◌<◌, sym, subst, length, get_or, arith}
+use Rattle.std.proofs.Common.{◌<◌, sym, subst, length, get_or, arith}
 use Rattle.bdd_core.specs.Chains.{node_of, entry_at}
 use Rattle.bdd_core.proofs.ChainLemmas.{IsAhead, ahead-start, ahead-next, other_node}
 use Rattle.bdd_core.proofs.unique.chains.find_in.Goals as goal
