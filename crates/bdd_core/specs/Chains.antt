@@ -1,13 +1,17 @@
 -- The unique table: the bucket of a node, and the chain of each bucket. No public clause speaks of this.
-use Rattle.std.specs.Prelude.{◌≡◌, ℕ, ◌+◌, ◌-◌, ◌*◌, ◌/◌, ◌%◌, ◌^◌, ◌<◌, ◌≤◌, List, length, slice_index_or, bit_and}
+use Rattle.std.specs.Prelude.{◌≡◌, ℕ, ◌+◌, ◌-◌, ◌*◌, ◌/◌, ◌%◌, ◌^◌, ◌<◌, ◌≤◌, min, max, List, length, slice_index_or, bit_and}
 use Rattle.bdd_core.specs.declared.node.Node.{Node}
 use Rattle.bdd_core.specs.declared.unique.chains.Entry.{Entry}
 use Rattle.bdd_core.specs.Diagram.{no_node}
 
+-- a bucket of so many, by a level and two places
+abbrev pub bucket_by : ℕ → ℕ → ℕ → ℕ → ℕ
+bucket_by buckets level less more =
+    bit_and ((bit_and (((less * 0x9e3779b97f4a7c15) % 2 ^ 64 + (level * 0xd6e8feb86659fd93) % 2 ^ 64) % 2 ^ 64 / 2 ^ 32) (buckets - 1) / 2 ^ 4 + more) % 2 ^ 64) (buckets - 1)
+
 -- the bucket of a node, of so many
 unfoldable pub bucket_of : ℕ → Node → ℕ
-bucket_of buckets node =
-    bit_and ((((node.low * 0x9e3779b97f4a7c15) % 2 ^ 64 + (node.level * 0xd6e8feb86659fd93) % 2 ^ 64) % 2 ^ 64 / 2 ^ 32 + node.high) % 2 ^ 64) (buckets - 1)
+bucket_of buckets node = bucket_by buckets node.level (min node.low node.high) (max node.low node.high)
 
 abbrev pub node_of : Entry → Node
 node_of entry = entry.node

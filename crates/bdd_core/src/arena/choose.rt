@@ -123,8 +123,9 @@ impl Arena {
         self.choices.find(f, g, h)
     }
 
-    /// Keeps the answer of a choice.
-    #[inline(always)]
+    /// Keeps the answer of a choice. It is no part of the recursion, which would keep the slot on its
+    /// stack at each level.
+    #[inline(never)]
     fn note(&mut self, f: u32, g: u32, h: u32, answer: u32)
         requires f_ref { IsRef self.old f }
         requires g_ref { IsRef self.old g }

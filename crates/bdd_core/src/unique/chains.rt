@@ -30,18 +30,21 @@ impl Entry {
 }
 
 /// The bucket of a node, where the number of buckets is a power of two. Any bucket would do: this
-/// one goes up with `high`, so nodes that differ in `high` alone, which are made one after the
-/// other, have buckets side by side.
+/// one is near that of the nodes made just before. It goes up with the later child, from a start
+/// that the rest of the node chooses among a sixteenth of all buckets.
 #[inline(always)]
 fn bucket(node: Node, buckets: usize) -> usize
     requires { 0 < buckets }
     ensures is { result ≡ bucket_of buckets node }
     ensures within { result < buckets }
 {
-    let start = (node.low as u64)
+    let less = node.low.min(node.high);
+    let more = node.low.max(node.high);
+    let mixed = (less as u64)
         .wrapping_mul(0x9e37_79b9_7f4a_7c15)
         .wrapping_add((node.level as u64).wrapping_mul(0xd6e8_feb8_6659_fd93));
-    (start >> 32).wrapping_add(node.high as u64) as usize & (buckets - 1)
+    let start = ((mixed >> 32) as usize & (buckets - 1)) >> 4;
+    start.wrapping_add(more as usize) & (buckets - 1)
 }
 
 /// The place of a node, if it is in its bucket.
