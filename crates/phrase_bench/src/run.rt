@@ -12,7 +12,7 @@ use anyhow::{Result, bail};
 use macros::Macros;
 use rsml_syntax::Checked;
 use std::rt::{Clock, Env, Files};
-use std::{env, fs, mem};
+use std::{env, fs};
 use worlds::Worlds;
 
 /// Prints what there is, and what is true.
@@ -102,10 +102,7 @@ fn perform_on_text<R: Print + Clock + AllocGlobal>(rt: &R, text: &[u8], task: Ta
     let Some(checked) = checked(rt.alloc(), text) else {
         bail!("no specification that keeps the rules and limits");
     };
-    let done = perform_on(rt, &checked, task);
-    // The program ends here, and with it its memory.
-    mem::forget(checked);
-    done
+    perform_on(rt, &checked, task)
 }
 
 fn words_of<R: Env + AllocGlobal>(rt: &R) -> Result<Vec<String>> {
