@@ -139,27 +139,43 @@ fn clash(small: Small, start: u32) -> Option<Clash>
     None
 }
 
-/// How many graphs of these meetings have another answer for some event.
-fn wrong(alloc: Global, meets: u32) -> Result<u32, NoMemory> {
+/// The ways of three events, three bits for each, as those of four of which the last has none.
+fn of_three(bits: u32) -> u32 {
+    (bits & 7) | (((bits >> 3) & 7) << 4) | (((bits >> 6) & 7) << 8)
+}
+
+/// How many graphs of three events, with these meetings, have another answer for some event.
+fn wrong_of_three(alloc: Global, meets: u32) -> Result<u32, NoMemory> {
     let mut wrong = 0u32;
-    for leads in 0..65536 {
-        let small = Small {
-            leads,
-            starts: 3,
-            meets,
-        };
-        if !all_right(alloc, small)? {
+    for bits in 0..512 {
+        if !all_right(alloc, of_three(bits), meets)? {
             wrong = wrong.saturating_add(1);
         }
     }
     Ok(wrong)
 }
 
-fn all_right(alloc: Global, small: Small) -> Result<bool, NoMemory> {
-    let graph = built(alloc, small)?;
-    let chains = Chains::build(alloc, &graph)?;
+/// The same of 1,500 graphs of four events.
+fn wrong_of_four(alloc: Global, meets: u32) -> Result<u32, NoMemory> {
+    let mut wrong = 0u32;
+    for place in 0..1500 {
+        if !all_right(alloc, (place * 40_503) & 0xffff, meets)? {
+            wrong = wrong.saturating_add(1);
+        }
+    }
+    Ok(wrong)
+}
+
+/// Whether all answers on a graph with two starts are those found by trying.
+fn all_right(alloc: Global, leads: u32, meets: u32) -> Result<bool, NoMemory> {
+    let small = Small {
+        leads,
+        starts: 3,
+        meets,
+    };
+    let chains = Chains::build(alloc, built(alloc, small)?)?;
     for event in 0..4 {
-        if event >= graph.count()
+        if event >= chains.graph().count()
             || chains.length(event) != length(small, event)
             || chains.clash(event) != clash(small, event)
             || chains.loops().contains(&event) != loops(small, event)
@@ -173,7 +189,8 @@ fn all_right(alloc: Global, small: Small) -> Result<bool, NoMemory> {
 #[test]
 fn answers_on_small_graphs_are_those_found_by_trying(rt: HostRuntime) -> Result<(), Fail> {
     for meets in [0x7bde, 0x0012, 0x4812, 0x0240] {
-        assert_eq!(rt; wrong(rt.alloc(), meets), Ok(0));
+        assert_eq!(rt; wrong_of_three(rt.alloc(), meets), Ok(0));
+        assert_eq!(rt; wrong_of_four(rt.alloc(), meets), Ok(0));
     }
     Ok(())
 }

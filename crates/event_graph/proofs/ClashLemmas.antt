@@ -1,13 +1,15 @@
 -- First clashes.
-use Rattle.std.proofs.Common.{◌≡◌, ℕ, zero, suc, ◌+◌, ◌≤◌, true, List, [], ◌∷◌, ◌++◌, length, Option, Some, None, refl, sym, ap, subst, ◌∙◌, ⊎_elim, inl, inr, arith, true≢false}
-use Rattle.std.proofs.lemmas.Bool.{cases_lt}
-use Rattle.event_graph.specs.Sets.{has}
-use Rattle.event_graph.specs.Graphs.{Graph}
-use Rattle.event_graph.specs.Chains.{linked, ends_with, IsLength, HasLength, Endless, IsClash, IsLengthAnswer, times_in}
-use Rattle.event_graph.specs.Reached.{LeadsOn}
+use Rattle.std.proofs.Common.{◌≡◌, ℕ, zero, suc, ◌+◌, ◌<◌, ◌≤◌, true, List, [], ◌∷◌, ◌++◌, length, Option, Some, None, refl, sym, ap, subst, ◌∙◌, ⊎_elim, inl, inr, ◌⊎◌, arith, true≢false}
+use Rattle.std.proofs.lemmas.Bool.{cases_lt, eqb-true}
+use Rattle.std.specs.Cmp.{first_so, second_so}
+use Rattle.event_graph.specs.declared.events.Events.{Events}
+use Rattle.event_graph.specs.Sets.{has, has_at}
+use Rattle.event_graph.specs.Graphs.{Graph, leads, meets, IsGraph}
+use Rattle.event_graph.specs.Chains.{linked, ends_with, Ends, IsLength, HasLength, Endless, IsClash, IsLengthAnswer, times_in}
+use Rattle.event_graph.specs.Reached.{LeadsOn, AreReached}
 use Rattle.event_graph.specs.Rounds.{Round, IsRound, AreMeeting, AreFirstMeeting}
 use Rattle.event_graph.specs.Clashes.{IsFirstClash}
-use Rattle.event_graph.proofs.LengthLemmas.{chain_of, goes_from}
+use Rattle.event_graph.proofs.LengthLemmas.{chain_of, goes_from, leads_below}
 use Rattle.event_graph.proofs.ReachLemmas.{linked_join, twice_stands}
 
 -- What meets in a round clashes.
@@ -96,3 +98,38 @@ not_both g x (n, is) (es, e, chain, twice) =
 pub endless_none : (g : Graph) (x : ℕ) (answer : Option ℕ) → IsLengthAnswer g x answer → Endless g x → answer ≡ None
 endless_none g x None is endless = refl
 endless_none g x (Some n) is endless = absurd (not_both g x (n, is) endless)
+
+-- Events that a start reaches.
+
+-- what ends a chain from an event is the event, or the event leads on to it
+pub ends_reached : (g : Graph) (x n e : ℕ) → Ends g x n e → (x ≡ e) ⊎ LeadsOn g x e
+ends_reached g x n e (es, chain, long, ends) =
+    let from = goes_from g x es chain in
+    by_rest from.rest from.so (ap (ends_with e) (sym from.is) ∙ ends)
+  where
+    by_rest : (rest : List ℕ) → linked g (x ∷ rest) ≡ true → ends_with e (x ∷ rest) ≡ true → (x ≡ e) ⊎ LeadsOn g x e
+    by_rest [] so k = inl (sym (eqb-true e x k))
+    by_rest (f ∷ rest) so k = inr (f ∷ rest, so, k)
+
+-- where no two events that a start reaches meet, it has no clash
+pub none_reached : (g : Graph) (r : Round) (x : ℕ) → r.graph ≡ g → has r.ends x ≡ true → ((q : ℕ) → LeadsOn g x q → has r.ends q ≡ true) → ((e f : ℕ) → AreMeeting r e f → ⊥)
+    → (n e f : ℕ) → IsClash g x n e f → ⊥
+none_reached g r x same first all free n e f c =
+    free e f (record { one = in_set e c.one; two = in_set f c.two; differ = c.differ; together = ap (λ z. meets z e f) same ∙ c.together })
+  where
+    in_set : (q : ℕ) → Ends g x n q → has r.ends q ≡ true
+    in_set q h = ⊎_elim (λ e. ap (has r.ends) (sym e) ∙ first) (λ l. all q l) (ends_reached g x n q h)
+
+-- an event that another leads on to is an event of the graph
+pub on_below : (g : Graph) → IsGraph g → (a b : ℕ) (es : List ℕ) → linked g (a ∷ es) ≡ true → ends_with b es ≡ true → b < g.count
+on_below g is a b [] h k = absurd (true≢false (sym k))
+on_below g is a b (e ∷ []) h k = subst (λ z. z < g.count) (sym (eqb-true b e k)) (leads_below g is a e (first_so (leads g a e) true h))
+on_below g is a b (e ∷ f ∷ es) h k = on_below g is e b (f ∷ es) (second_so (leads g a e) (linked g (e ∷ f ∷ es)) h) k
+
+-- the set of an event is of events of the graph
+pub set_below : (g : Graph) → IsGraph g → (sets : List Events) → AreReached g sets → (x q : ℕ) → has_at sets x q ≡ true → q < g.count
+set_below g is sets r x q h = let on = r.only x q h in on_below g is x q on.0 on.1 on.2
+
+-- what ends a chain from an event of the graph is an event of the graph
+pub ends_below : (g : Graph) → IsGraph g → (x n e : ℕ) → x < g.count → Ends g x n e → e < g.count
+ends_below g is x n e l h = ⊎_elim (λ q. subst (λ z. z < g.count) q l) (λ on. on_below g is x e on.0 on.1 on.2) (ends_reached g x n e h)

@@ -1,7 +1,7 @@
-mod BitLemmas
-mod RowLemmas
-mod Pigeons
-mod LengthLemmas
-mod ReachLemmas
-mod RoundLemmas
-mod ClashLemmas
+pub mod BitLemmas
+pub mod RowLemmas
+pub mod Pigeons
+pub mod LengthLemmas
+pub mod ReachLemmas
+pub mod RoundLemmas
+pub mod ClashLemmas

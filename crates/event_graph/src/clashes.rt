@@ -4,6 +4,7 @@ ghost use Rattle.event_graph.specs.Graphs.{starts};
 ghost use Rattle.event_graph.specs.Sets.{has};
 ghost use Rattle.event_graph.specs.Chains.{IsLength};
 ghost use Rattle.event_graph.specs.Ended.{AreLengths};
+ghost use Rattle.event_graph.specs.Reached.{AreReached, LeadsOn};
 ghost use Rattle.event_graph.specs.Clashes.{IsClashAnswer, AreClashes, if_any};
 
 use crate::clash::Clash;
@@ -19,14 +20,16 @@ pub fn firsts(
     alloc: Global,
     graph: &EventGraph,
     lengths: &[Option<u32>],
+    sets: &[Events],
 ) -> Result<Vec<Option<Clash>>, NoMemory>
-    requires { AreLengths graph.now lengths.now }
+    requires lengths { AreLengths graph.now lengths.now }
+    requires sets { AreReached graph.now sets.now }
     ensures { IfOk result (λ firsts. AreClashes graph.now firsts.items) }
 {
     let starts = graph.starts();
     let mut firsts = Vec::new(alloc);
     for event in 0..graph.count() {
-        firsts.push(clash_of(graph, &starts, lengths, event))?;
+        firsts.push(clash_of(graph, &starts, lengths, sets, event))?;
     }
     Ok(firsts)
 }
@@ -36,10 +39,12 @@ fn clash_of(
     graph: &EventGraph,
     starts: &Events,
     lengths: &[Option<u32>],
+    sets: &[Events],
     event: u32,
 ) -> Option<Clash>
     requires event { event < graph.now.count }
     requires lengths { AreLengths graph.now lengths.now }
+    requires sets { AreReached graph.now sets.now }
     ensures start { has starts.now event ≡ true → IsClashAnswer graph.now event result }
     ensures other { has starts.now event ≡ false → result ≡ None }
 {
@@ -49,7 +54,23 @@ fn clash_of(
     }
     match lengths[event as usize] {
         None => None,
-        Some(length) => first_clash(graph, event, length),
+        Some(length) => clash_within(graph, event, length, &sets[event as usize]),
+    }
+}
+
+/// The first clash of an event of this length, which leads on to the events of the set. None where
+/// no two of them meet.
+fn clash_within(graph: &EventGraph, event: u32, length: u32, set: &Events) -> Option<Clash>
+    requires event { event < graph.now.count }
+    requires length { IsLength graph.now event length }
+    requires all { (q : ℕ) → LeadsOn graph.now event q → has set.now q ≡ true }
+    requires only { (q : ℕ) → has set.now q ≡ true → q < graph.now.count }
+    ensures { IsClashAnswer graph.now event result }
+{
+    let all = Rounds::over(graph, event, set);
+    match all.meeting() {
+        None => None,
+        Some(_) => first_clash(graph, event, length),
     }
 }
 

@@ -1,8 +1,9 @@
-ghost use Rattle.std.specs.Prelude.{◌≡◌, ℕ, ◌<◌, ◌≤◌, ◌==◌, ◌||◌, ◌&&◌, true, false, length, IfOk};
-ghost use Rattle.event_graph.specs.Graphs.{leads, starts, meets, IsBare, AreRows, IsGraph};
-ghost use Rattle.event_graph.specs.Sets.{has, has_at};
+ghost use Rattle.std.specs.Prelude.{◌≡◌, ℕ, ◌<◌, ◌≤◌, ◌==◌, ◌||◌, ◌&&◌, true, IfOk};
+ghost use Rattle.event_graph.specs.Graphs.{leads, starts, meets, IsBare, IsGraph};
+ghost use Rattle.event_graph.specs.Sets.{has};
 
 use crate::events::Events;
+use crate::sets::{join_in, no_events, put_in};
 use rsml_base::NoMemory;
 use std::alloc::Global;
 use std::marker::Model;
@@ -38,8 +39,8 @@ impl EventGraph {
         requires { count ≤ 1024 }
         ensures { IfOk result (λ g. IsBare g count) }
     {
-        let ways = no_rows(alloc, count as usize)?;
-        let pairs = no_rows(alloc, count as usize)?;
+        let ways = no_events(alloc, count as usize)?;
+        let pairs = no_events(alloc, count as usize)?;
         Ok(EventGraph {
             count,
             ways,
@@ -80,6 +81,15 @@ impl EventGraph {
         self.begun.put(event as usize);
     }
 
+    /// Whether an event begins chains.
+    pub fn is_start(&self, event: u32) -> bool
+        requires { event < self.now.count }
+        ensures { result ≡ starts self.now event }
+    {
+        let _ = &self.count;
+        self.begun.has(event as usize)
+    }
+
     /// Two events meet, each the other.
     pub fn meet(&mut self, one: u32, two: u32)
         requires one { one < self.old.count }
@@ -92,6 +102,19 @@ impl EventGraph {
     {
         put_in(&mut self.pairs, one as usize, two as usize);
         put_in(&mut self.pairs, two as usize, one as usize);
+    }
+
+    /// An event meets each event of a set. It tells this order alone.
+    pub fn meet_each(&mut self, event: u32, others: &Events)
+        requires event { event < self.old.count }
+        requires within { (q : ℕ) → has others.now q ≡ true → q < self.old.count }
+        ensures meets { (a b : ℕ) → meets self.new a b
+            ≡ (meets self.old a b || (event == a && has others.now b)) }
+        ensures count { self.new.count ≡ self.old.count }
+        ensures leads { self.new.ways ≡ self.old.ways }
+        ensures starts { self.new.begun ≡ self.old.begun }
+    {
+        join_in(&mut self.pairs, event as usize, others);
     }
 
     /// The events that an event leads to.
@@ -125,27 +148,4 @@ impl EventGraph {
     {
         self.begun
     }
-}
-
-/// So many sets with no events.
-fn no_rows(alloc: Global, count: usize) -> Result<Vec<Events>, NoMemory>
-    ensures none { IfOk result (λ rows. (a b : ℕ) → has_at rows.items a b ≡ false) }
-    ensures rows { IfOk result (λ rows. AreRows count rows.items) }
-{
-    let mut rows = Vec::new(alloc);
-    for _row in 0..count {
-        rows.push(Events::new())?;
-    }
-    Ok(rows)
-}
-
-/// Puts an event into the set of another.
-fn put_in(rows: &mut Vec<Events>, from: usize, to: usize)
-    requires from { from < length rows.old.items }
-    requires to { to < 1024 }
-    ensures more { (a b : ℕ) → has_at rows.new.items a b
-        ≡ (has_at rows.old.items a b || (from == a && to == b)) }
-    ensures long { length rows.new.items ≡ length rows.old.items }
-{
-    rows[from].put(to);
 }

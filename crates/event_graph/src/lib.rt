@@ -1,6 +1,7 @@
 //! A graph of numbered events: the lengths of its chains, its loops, and its first clashes.
 #![tactic(auto)]
 
+mod answers;
 mod chains;
 mod clash;
 mod clashes;
@@ -9,8 +10,11 @@ mod graph;
 mod lengths;
 mod loops;
 mod rounds;
+mod sets;
 
 pub use chains::Chains;
 pub use clash::Clash;
+pub use events::Events;
 pub use graph::EventGraph;
 pub use rounds::Rounds;
+pub use sets::{no_events, put_in};

@@ -10,15 +10,15 @@ use rsml_base::NoMemory;
 use std::alloc::Global;
 
 /// The events that loop, rising: those that lead on to themselves, and that a start is or leads on
-/// to.
-pub fn loops(alloc: Global, graph: &EventGraph) -> Result<Vec<u32>, NoMemory>
+/// to. The sets are of those that each event leads on to.
+pub fn loops(alloc: Global, graph: &EventGraph, sets: &[Events]) -> Result<Vec<u32>, NoMemory>
+    requires { AreReached graph.now sets.now }
     ensures { IfOk result (λ loops. AreLoops graph.now loops.items) }
 {
-    let sets = reached(alloc, graph)?;
-    let begun = begun_of(graph, sets.as_slice());
+    let begun = begun_of(graph, sets);
     let mut loops = Vec::new(alloc);
     for event in 0..graph.count() {
-        let looping = is_looping(&begun, sets.as_slice(), event as usize);
+        let looping = is_looping(&begun, sets, event as usize);
         push_if(&mut loops, event, looping)?;
     }
     Ok(loops)
@@ -71,7 +71,7 @@ fn begin_at(begun: &mut Events, starts: &Events, sets: &[Events], start: usize)
 }
 
 /// The set of those that each event leads on to.
-fn reached(alloc: Global, graph: &EventGraph) -> Result<Vec<Events>, NoMemory>
+pub fn reached(alloc: Global, graph: &EventGraph) -> Result<Vec<Events>, NoMemory>
     ensures { IfOk result (λ sets. AreReached graph.now sets.items) }
 {
     let mut sets = graph.rows(alloc)?;

@@ -1,7 +1,7 @@
 ghost use Rattle.std.specs.Prelude.{◌≡◌, ◌≢◌, ℕ, ◌+◌, ◌<◌, ◌≤◌, true, false, None, IfSome};
 ghost use Rattle.event_graph.specs.Graphs.{leads};
 ghost use Rattle.event_graph.specs.Sets.{has};
-ghost use Rattle.event_graph.specs.Rounds.{IsRound, AreMeeting, AreFirstMeeting};
+ghost use Rattle.event_graph.specs.Rounds.{IsRound, IsWithin, AreMeeting, AreFirstMeeting};
 
 use crate::events::Events;
 use crate::graph::EventGraph;
@@ -37,6 +37,20 @@ impl<'g> Rounds<'g> {
         }
     }
 
+    /// An event with those of a set.
+    pub(crate) fn over(graph: &'g EventGraph, event: u32, set: &Events) -> Rounds<'g>
+        requires event { event < graph.now.count }
+        requires set { (q : ℕ) → has set.now q ≡ true → q < graph.now.count }
+        ensures graph { result.graph ≡ graph.now }
+        ensures first { has result.ends event ≡ true }
+        ensures set { (q : ℕ) → has set.now q ≡ true → has result.ends q ≡ true }
+    {
+        let _ = graph.count();
+        let mut ends = *set;
+        ends.put(event as usize);
+        Rounds { graph, ends }
+    }
+
     /// The first round of an event.
     pub fn first(&mut self, event: u32)
         requires { event < self.old.graph.count }
@@ -56,6 +70,14 @@ impl<'g> Rounds<'g> {
     {
         let _ = self.graph.count();
         self.ends = followers(self.graph, &self.ends);
+    }
+
+    /// The graph.
+    pub fn graph(&self) -> &'g EventGraph
+        ensures graph { result.now ≡ self.now.graph }
+        ensures within { IsWithin self.now }
+    {
+        self.graph
     }
 
     /// Whether an event ends a chain of this round.

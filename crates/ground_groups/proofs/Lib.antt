@@ -1,7 +1,7 @@
 mod FunctionGroups
 mod GroupLemmas
 mod Inside
-mod Instances
+pub mod Instances
 mod LineLemmas
 mod Matched
 mod Order

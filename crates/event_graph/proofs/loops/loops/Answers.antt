@@ -8,10 +8,10 @@ use Rattle.event_graph.proofs.loops.loops.Goals as goal
 
 pub loop-event-preserved : goal.loop-event-preserved
 loop-event-preserved c =
-    let p : ℕ → Bool = λ e. has c.begun_of-begun.result e && has_at c.in_ok-sets.sets.items e e in
+    let p : ℕ → Bool = λ e. has c.begun_of-begun.result e && has_at c.args.sets.now e e in
     let n = c.loop-event.event in
     let look : c.is_looping-looping.result ≡ p n =
-    c.is_looping-looping.ensures ∙ ap (λ (xs : List Events). has c.begun_of-begun.result n && has_at xs n n) c.as_slice-in-loop-event.ensures.value in
+    c.is_looping-looping.ensures in
     c.in_ok-push_if.ensures
     ∙ ap (λ (xs : List ℕ). xs ++ cond c.is_looping-looping.result (n ∷ []) []) c.loop-event.invariant
     ∙ ap (λ b. filter p (range_with_len 0 n) ++ cond b (n ∷ []) []) look
@@ -20,8 +20,6 @@ loop-event-preserved c =
 pub returns : goal.returns
 returns c =
     let all : c.loop-event.event ≡ c.args.graph.now.count = omega (arith, c.loop-event-test.false, c.loop-event.auto.event-end, c.count-event-end.ensures.count) in
-    let sets = c.as_slice.ensures.value in
-    loops_are c.args.graph.now c.in_ok-sets.sets.items c.begun_of-begun.result c.loop-event.loops.items c.in_ok-sets.ensures
-    (λ e h. subst (λ (xs : List Events). IsBegun c.args.graph.now xs e) sets (c.begun_of-begun.ensures.only e h))
-    (λ e h. c.begun_of-begun.ensures.all e (subst (λ (xs : List Events). IsBegun c.args.graph.now xs e) (sym sets) h))
-    (c.loop-event.invariant ∙ ap (λ n. filter (λ e. has c.begun_of-begun.result e && has_at c.in_ok-sets.sets.items e e) (range_with_len 0 n)) all)
+    loops_are c.args.graph.now c.args.sets.now c.begun_of-begun.result c.loop-event.loops.items c.requires
+    c.begun_of-begun.ensures.only c.begun_of-begun.ensures.all
+    (c.loop-event.invariant ∙ ap (λ n. filter (λ e. has c.begun_of-begun.result e && has_at c.args.sets.now e e) (range_with_len 0 n)) all)

@@ -9,9 +9,9 @@ use Rattle.event_graph.proofs.chains.Chains.length.Goals as goal
 pub returns-clause-endless : goal.returns-clause-endless
 returns-clause-endless c =
     let e = c.args.event in
-    let g = c.self.inside.graph.now in
+    let g = c.self.inside.graph in
     let found = c.index.result.now in
-    let lengths = c.self.inside.lengths.items in
+    let lengths = c.self.inside.answers.lengths.items in
     let same = ap (λ (z : Graph). z.count) c.self.view_is in
     let long = c.self.invariant.of_chains.long in
     let below : e < g.count = omega (arith, c.requires, same) in

@@ -1,0 +1,9 @@
+mod Views
+mod Paths
+mod Lists
+mod Enabled
+mod Conditions
+mod OnEventLemmas
+mod MemberLemmas
+mod Marked
+mod Counting

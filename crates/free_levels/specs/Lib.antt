@@ -1,0 +1,5 @@
+pub mod Values
+pub mod Keys
+pub mod Settle
+pub mod Stages
+pub mod Laws

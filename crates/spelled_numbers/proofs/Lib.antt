@@ -1,0 +1,5 @@
+pub mod WeightLemmas
+pub mod SpellingLemmas
+pub mod CoverLemmas
+pub mod BitLemmas
+pub mod DigitLemmas

@@ -1,0 +1,4 @@
+pub mod Weights
+pub mod Spelling
+pub mod Bits
+pub mod Laws

@@ -1,0 +1,3 @@
+pub mod DraftState
+pub mod Laws
+pub mod Writes

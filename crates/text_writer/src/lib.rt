@@ -1,0 +1,12 @@
+//! Writing a text piece by piece: after the first refusal nothing more is written.
+#![tactic(auto)]
+
+mod draft;
+mod laws;
+mod pieces;
+mod writer;
+
+pub use draft::Draft;
+pub use laws::{pieces_are_one_writing, writing_nothing_changes_nothing};
+pub use pieces::{put_line_end, put_number, put_signed};
+pub use writer::Writer;
