@@ -2,6 +2,9 @@ ghost use Rattle.std.specs.Prelude.{◌≡◌, ◌<◌, ◌≤◌, IfOk, Some, l
 ghost use Rattle.rsml_meaning.specs.Words.{Instance};
 ghost use Rattle.rsml_meaning.specs.Chains.{is_external};
 ghost use Rattle.rsml_meaning.specs.Instances as instances;
+ghost use Rattle.rsml_meaning.specs.Cells.{InputCell, cells};
+ghost use Rattle.rsml_meaning.specs.Runs.{first_world};
+ghost use Rattle.rsml_meaning.specs.Worlds.{IsWorld};
 ghost use Rattle.rsml_ground.specs.Grounded.{IsShort};
 ghost use Rattle.macros.specs.Guards.{GuardBelow};
 ghost use Rattle.ground_members.specs.declared.transitions.GroundTransition.{GroundTransition as Transition};
@@ -17,7 +20,7 @@ use ground_groups::Groups;
 use ground_members::{GroundSendCase, GroundTransition};
 use interfaces::Interfaces;
 use macros::{FastGuard, Macros};
-use rsml_syntax::{Checked, NoMemory};
+use rsml_syntax::{Checked, NoMemory, World};
 use state_arrays::Names;
 use state_tree::Tree;
 use std::alloc::Global;
@@ -95,6 +98,46 @@ impl<'a> Machine<'a> {
     {
         let _ = &self.behaviour;
         self.instances.names()
+    }
+
+    /// The first world: each component at its default child, each cell at its input's initial number. It takes memory.
+    pub fn initial(&self, alloc: Global) -> Result<World, NoMemory>
+        ensures first { IfOk result (λ w. w ≡ first_world self.now.base.spec) }
+        ensures world { IfOk result (λ w. IsWorld self.now.base.spec w) }
+    {
+        self.worlds().first(alloc)
+    }
+
+    /// The name of the specification.
+    pub fn name(&self) -> &[u8]
+        ensures { result.now ≡ self.now.base.spec.name }
+    {
+        self.names().spec().name.bytes()
+    }
+
+    /// How many cells there are, previous cells counted.
+    pub fn cells(&self) -> usize
+        ensures { result ≡ length (cells self.now.base.spec) }
+    {
+        self.worlds().cells()
+    }
+
+    /// The least number of a cell.
+    pub fn cell_low(&self, cell: u32) -> i64
+        requires { cell < length (cells self.now.base.spec) }
+        ensures { (c : InputCell) → slice_get (cells self.now.base.spec) cell ≡ Some c
+            → result ≡ c.numbers.low }
+    {
+        self.worlds().low(cell)
+    }
+
+    /// The greatest number of a cell.
+    pub fn cell_high(&self, cell: u32) -> i64
+        requires { cell < length (cells self.now.base.spec) }
+        ensures { (c : InputCell) → slice_get (cells self.now.base.spec) cell ≡ Some c
+            → result ≡ c.numbers.high }
+    {
+        self.worlds().high(cell)
     }
 
     /// Its phrases, and its macro and function instances.
