@@ -31,19 +31,25 @@ fn equal_functions_have_equal_handles(rt: HostRuntime) -> Result<(), Fail> {
     Ok(())
 }
 
-/// Whether `x and y` is true where only x is, and whether it is y where x is true.
-fn read_conjunction(alloc: Global) -> Result<[bool; 2], NoMemory> {
+/// Whether `x and y` is true where only x is, whether it is y where x is true, and whether it is y
+/// where x may be either.
+fn read_conjunction(alloc: Global) -> Result<[bool; 3], NoMemory> {
     let mut arena = Arena::new(alloc, 2)?;
     let x = arena.var(0)?;
     let y = arena.var(1)?;
     let both = arena.and(x, y)?;
     let with_x = arena.restrict(both, 0, true)?;
-    Ok([arena.eval(both, &[true, false]), with_x == y])
+    let without_x = arena.forget(both, &[0])?;
+    Ok([
+        arena.eval(both, &[true, false]),
+        with_x == y,
+        without_x == y,
+    ])
 }
 
 #[test]
 fn reads_a_conjunction(rt: HostRuntime) -> Result<(), Fail> {
-    assert_eq!(rt; read_conjunction(rt.alloc()), Ok([false, true]));
+    assert_eq!(rt; read_conjunction(rt.alloc()), Ok([false, true, true]));
     Ok(())
 }
 

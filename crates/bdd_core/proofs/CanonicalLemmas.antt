@@ -34,7 +34,7 @@ module _ (d : Diagram) (is : IsReduced d) where
   no_constant (suc (suc k)) h l = omega arith
 
   -- a place does not ask for the levels below its own
-  meaning-agree : (n k : ℕ) (v w : ℕ → Bool) → k < n → IsRef d k → ((x : ℕ) → level_of d k ≤ x → v x ≡ w x) → meaning d k v ≡ meaning d k w
+  pub meaning-agree : (n k : ℕ) (v w : ℕ → Bool) → k < n → IsRef d k → ((x : ℕ) → level_of d k ≤ x → v x ≡ w x) → meaning d k v ≡ meaning d k w
   meaning-agree zero k v w b h same = absurd (omega arith)
   meaning-agree (suc n) zero v w b h same = meaning-false d v ∙ sym (meaning-false d w)
   meaning-agree (suc n) (suc zero) v w b h same = meaning-true d v ∙ sym (meaning-true d w)

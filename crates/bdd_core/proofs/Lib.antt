@@ -9,4 +9,7 @@ pub mod GrowthLemmas
 pub mod CallLemmas
 pub mod BoundLemmas
 pub mod SweepLemmas
-pub mod KeptLemmas
+pub mod ChainLemmas
+pub mod SupportLemmas
+pub mod ForgetLemmas
+mod KeptLemmas

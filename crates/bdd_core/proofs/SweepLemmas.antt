@@ -48,7 +48,7 @@ swept-start d is f seen fits h none = record {
 
 module _ (d : Diagram) (f at : ℕ) (seen : List Bool) (count : ℕ) (is : IsReduced d) (fits : IsRef d f) (s : Swept d f (suc at) seen count) where
   -- a place that f reaches next is marked
-  reached_marked : Reaches d f at → get_or seen at false ≡ true
+  pub reached_marked : Reaches d f at → get_or seen at false ≡ true
   reached_marked r = elim (reach_last d is f at fits r) [
     | inl e ↦ subst (λ k. get_or seen k false ≡ true) e (s.start (omega (arith, e)))
     | inr q ↦

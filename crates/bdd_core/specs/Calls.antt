@@ -1,5 +1,6 @@
 -- What the calls of an arena promise.
-use Rattle.std.specs.Prelude.{◌≡◌, ℕ, ◌≤◌, Bool, false, ◌&&◌, ◌==◌, List, if◌then◌else◌, length, slice_index_or}
+use Rattle.std.specs.Prelude.{◌≡◌, ◌↔◌, ℕ, ◌≤◌, Bool, true, false, ◌&&◌, ◌==◌, List, if◌then◌else◌, length, slice_index_or}
+use Rattle.std.specs.List.{list_any}
 use Rattle.bdd_core.specs.declared.branch.Branch.{Branch}
 use Rattle.bdd_core.specs.Diagram.{Diagram, IsRef, node_at, meaning, IsReducedNode}
 use Rattle.bdd_core.specs.Reach.{Reaches}
@@ -46,3 +47,26 @@ pub record IsConjunction (old new : Diagram) (f g k : ℕ) : Type 0 where
 -- each place that new has and old has not is such a conjunction
 abbrev pub AddsConjunctions : Diagram → Diagram → ℕ → ℕ → Type 0
 AddsConjunctions old new f g = (k : ℕ) → length old.nodes ≤ k → IsRef new k → IsConjunction old new f g k
+
+-- whether a level is in a list
+abbrev pub is_in : List ℕ → ℕ → Bool
+is_in levels level = list_any (λ other. other == level) levels
+
+-- the values differ in these levels alone
+abbrev pub AgreeOff : List ℕ → (ℕ → Bool) → (ℕ → Bool) → Type 0
+AgreeOff levels one other = (level : ℕ) → is_in levels level ≡ false → one level ≡ other level
+
+-- some values that differ from these in those levels alone make the function true
+pub record TrueOff (function : (ℕ → Bool) → Bool) (levels : List ℕ) (values : ℕ → Bool) : Type 0 where
+  pub other : ℕ → Bool
+  pub agree : AgreeOff levels other values
+  pub holds : function other ≡ true
+
+-- r is true exactly where f is with some values of these levels
+pub record IsForgotten (old new : Diagram) (f : ℕ) (levels : List ℕ) (r : ℕ) : Type 0 where
+  pub is_ref : IsRef new r
+  pub means : (values : ℕ → Bool) → (meaning new r values ≡ true) ↔ TrueOff (meaning old f) levels values
+
+-- the function of f does not depend on the level
+abbrev pub Ignores : Diagram → ℕ → ℕ → Type 0
+Ignores d f level = (values : ℕ → Bool) (value : Bool) → meaning d f (with_value values level value) ≡ meaning d f values

@@ -1,9 +1,9 @@
 -- What the private steps of a call promise each other. No public clause speaks of these.
-use Rattle.std.specs.Prelude.{◌≡◌, ℕ, ◌<◌, ◌≤◌, ◌⊎◌, min, Bool, List, if◌then◌else◌, Contains}
+use Rattle.std.specs.Prelude.{◌≡◌, ◌↔◌, ℕ, ◌<◌, ◌≤◌, ◌⊎◌, min, Bool, true, List, if◌then◌else◌, Contains}
 use Rattle.bdd_core.specs.declared.computed.Kept.{Kept}
 use Rattle.bdd_core.specs.Diagram.{Diagram, IsRef, node_at, level_of, meaning}
 use Rattle.bdd_core.specs.Reach.{Reaches}
-use Rattle.bdd_core.specs.Calls.{with_value}
+use Rattle.bdd_core.specs.Calls.{with_value, is_in, TrueOff}
 
 -- f where it is true, so g, and else h
 abbrev pub chosen : Diagram → ℕ → ℕ → ℕ → (ℕ → Bool) → Bool
@@ -69,3 +69,26 @@ pub record IsChild (d : Diagram) (p k : ℕ) : Type 0 where
   pub which : ((node_at d p).low ≡ k) ⊎ ((node_at d p).high ≡ k)
   pub two : 2 ≤ p
   pub below : k < p
+
+-- no level of the list is greater
+pub record IsGreatest (levels : List ℕ) (last : ℕ) : Type 0 where
+  pub most : (level : ℕ) → is_in levels level ≡ true → level ≤ last
+
+-- r is what is left of f without these levels
+pub record IsWithout (d : Diagram) (f : ℕ) (levels : List ℕ) (r : ℕ) : Type 0 where
+  pub is_ref : IsRef d r
+  pub means : (values : ℕ → Bool) → (meaning d r values ≡ true) ↔ TrueOff (meaning d f) levels values
+  pub level_most : level_of d f ≤ level_of d r
+
+-- r is one of low and high where the level is forgotten, and else a node
+pub record IsJoined (d : Diagram) (level low high : ℕ) (forgotten : Bool) (r : ℕ) : Type 0 where
+  pub is_ref : IsRef d r
+  pub means : (values : ℕ → Bool) → meaning d r values
+      ≡ (if forgotten then (if meaning d low values then true else meaning d high values)
+      else (if values level then meaning d high values else meaning d low values))
+  pub level_most : level ≤ level_of d r
+
+-- each answer is what is left of its place
+pub record AreRight (d : Diagram) (levels : List ℕ) (answers : List Kept) : Type 0 where
+  pub refs : (kept : Kept) → Contains answers kept → IsRef d kept.f
+  pub right : (kept : Kept) → Contains answers kept → IsWithout d kept.f levels kept.answer

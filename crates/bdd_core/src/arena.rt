@@ -5,13 +5,15 @@ ghost use Rattle.bdd_core.specs.Calls.{Represents};
 
 mod choose;
 mod cut;
+mod forget;
 mod nodes;
 mod read;
+mod support;
 
 use crate::computed::Computed;
-use crate::node::{FALSE, Node, TRUE};
+use crate::node::{FALSE, TRUE};
 use crate::reference::Ref;
-use indexmap::IndexSet;
+use crate::unique::Unique;
 use rsml_base::NoMemory;
 use std::alloc::Global;
 use std::marker::Model;
@@ -23,7 +25,7 @@ use std::marker::Model;
 #[derive(Drop)]
 pub struct Arena {
     levels: u32,
-    nodes: IndexSet<Node>,
+    nodes: Unique,
     choices: Computed,
     cuts: Computed,
 }
@@ -34,9 +36,9 @@ impl Model for Arena {
 
     ghost Value = { Diagram };
 
-    ghost view = { λ a. record { levels = a.levels; nodes = a.nodes.keys } };
+    ghost view = { λ a. record { levels = a.levels; nodes = a.nodes } };
 
-    ghost invariant = { λ a. ArenaHolds (record { levels = a.levels; nodes = a.nodes.keys })
+    ghost invariant = { λ a. ArenaHolds (record { levels = a.levels; nodes = a.nodes })
         a.choices.slots.items a.cuts.slots.items };
 }
 
@@ -46,9 +48,7 @@ impl Arena {
         ensures levels { IfOk result (λ arena. arena.levels ≡ levels) }
         ensures nodes { IfOk result (λ arena. length arena.nodes ≡ 2) }
     {
-        let mut nodes = IndexSet::new(alloc);
-        nodes.insert(constant_node(levels, FALSE))?;
-        nodes.insert(constant_node(levels, TRUE))?;
+        let nodes = Unique::new(alloc, levels)?;
         Ok(Arena {
             levels,
             nodes,
@@ -98,16 +98,5 @@ impl Arena {
         ensures reduced { IsReduced self.now }
     {
         let _ = &self.levels;
-    }
-}
-
-/// The node of a constant, whose place is its own child.
-fn constant_node(levels: u32, place: u32) -> Node
-    ensures { result ≡ record { level = levels; low = place; high = place } }
-{
-    Node {
-        level: levels,
-        low: place,
-        high: place,
     }
 }

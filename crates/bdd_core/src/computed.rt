@@ -40,6 +40,11 @@ impl Computed {
         }
     }
 
+    /// What it takes its memory from.
+    pub(crate) fn allocator(&self) -> Global {
+        *self.slots.allocator()
+    }
+
     /// The answer to a question, if it is kept.
     #[inline(always)]
     pub(crate) fn find(&self, f: u32, g: u32, h: u32) -> Option<u32>
@@ -101,11 +106,13 @@ impl Computed {
     }
 }
 
-/// The slot of a question, where the number of slots is a power of two. Any slot would do.
+/// The slot of a question, where the number of slots is a power of two. Any slot would do: this one
+/// goes up with `f`, so the questions that differ in `f` alone, which come one after the other, stand
+/// side by side.
 #[inline(always)]
 fn slot_of(f: u32, g: u32, h: u32, slots: usize) -> usize {
-    let x = (f as u64).wrapping_mul(0x9e37_79b9_7f4a_7c15);
-    let y = (x ^ (x >> 29) ^ g as u64).wrapping_mul(0xd6e8_feb8_6659_fd93);
-    let z = (y ^ (y >> 29) ^ h as u64).wrapping_mul(0x9e37_79b9_7f4a_7c15);
-    (z ^ (z >> 32)) as usize & slots.saturating_sub(1)
+    let start = (g as u64)
+        .wrapping_mul(0x9e37_79b9_7f4a_7c15)
+        .wrapping_add((h as u64).wrapping_mul(0xd6e8_feb8_6659_fd93));
+    (start >> 32).wrapping_add(f as u64) as usize & slots.saturating_sub(1)
 }

@@ -86,7 +86,7 @@ impl Arena {
     }
 
     /// It calls itself once a level.
-    fn choose(&mut self, f: u32, g: u32, h: u32) -> Result<u32, NoMemory>
+    pub(super) fn choose(&mut self, f: u32, g: u32, h: u32) -> Result<u32, NoMemory>
         requires f_ref { IsRef self.old f }
         requires g_ref { IsRef self.old g }
         requires h_ref { IsRef self.old h }
@@ -123,8 +123,9 @@ impl Arena {
         self.choices.find(f, g, h)
     }
 
-    /// Keeps the answer of a choice.
-    #[inline(always)]
+    /// Keeps the answer of a choice. It is no part of the recursion, which would keep the slot on its
+    /// stack at each level.
+    #[inline(never)]
     fn note(&mut self, f: u32, g: u32, h: u32, answer: u32)
         requires f_ref { IsRef self.old f }
         requires g_ref { IsRef self.old g }
@@ -164,16 +165,16 @@ fn simple(f: u32, g: u32, h: u32) -> Option<u32>
     }
 }
 
-/// The same choice, with the operands of a conjunction or a disjunction in the order of their
-/// places.
+/// The same choice, where the first operand of a conjunction or a disjunction is the one that stands
+/// later in the arena.
 #[inline(always)]
 fn ordered(f: u32, g: u32, h: u32) -> (u32, u32, u32)
     ensures { (d : Diagram) → IsRef d f → IsRef d g → IsRef d h
         → IsSameChoice d f g h result.0 result.1 result.2 }
 {
-    if h == FALSE && g < f {
+    if h == FALSE && f < g {
         (g, f, h)
-    } else if g == TRUE && h < f {
+    } else if g == TRUE && f < h {
         (h, g, f)
     } else {
         (f, g, h)

@@ -9,9 +9,6 @@ use crate::node::Node;
 use crate::reference::Ref;
 use rsml_base::NoMemory;
 
-/// The greatest place that a node can have: `IndexSet` itself refuses a node before that.
-const MAX_PLACE: usize = u32::MAX as usize;
-
 impl Arena {
     /// The place of a handle.
     #[inline(always)]
@@ -33,7 +30,7 @@ impl Arena {
         ensures below { 2 ≤ f → result < self.now.levels }
         ensures reduced { IsReduced self.now }
     {
-        self.nodes[f as usize].level
+        self.nodes.node(f as usize).level
     }
 
     /// The two places that stand for a place where a level has the values false and true. The level
@@ -45,7 +42,7 @@ impl Arena {
         requires least { level ≤ level_of self.now f }
         ensures { IsChildren self.now f level result.0 result.1 }
     {
-        let node = self.nodes[f as usize];
+        let node = self.nodes.node(f as usize);
         if node.level == level {
             (node.low, node.high)
         } else {
@@ -68,12 +65,10 @@ impl Arena {
         if low == high {
             return Ok(low);
         }
-        if self.nodes.len() > MAX_PLACE {
-            return Err(NoMemory);
+        let node = Node { level, low, high };
+        if let Some(place) = self.nodes.find(node) {
+            return Ok(place);
         }
-        let Ok((place, _)) = self.nodes.insert_full(Node { level, low, high }) else {
-            return Err(NoMemory);
-        };
-        Ok(place as u32)
+        self.nodes.push(node)
     }
 }

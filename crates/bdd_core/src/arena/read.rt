@@ -19,7 +19,7 @@ impl Arena {
     {
         let mut at = self.place(f);
         while at > 1 {
-            let node = self.nodes[at as usize];
+            let node = self.nodes.node(at as usize);
             at = if values[node.level as usize] {
                 node.high
             } else {
@@ -35,7 +35,7 @@ impl Arena {
         ensures constant { IsNone result ↔ IsConstant self.now f }
         ensures node { IfSome result (λ branch. IsBranch self.now f branch) }
     {
-        let node = self.nodes[f.place];
+        let node = self.nodes.node(f.place);
         if f.place < 2 {
             return None;
         }
@@ -69,7 +69,7 @@ impl Arena {
     }
 
     /// Takes the mark of a place, and marks its children.
-    fn unmark(&self, at: usize, seen: &mut Vec<bool>)
+    pub(super) fn unmark(&self, at: usize, seen: &mut Vec<bool>)
         requires place { at < length seen.old.items }
         requires in_arena { IsRef self.now at }
         requires marked { slice_get seen.old.items at ≡ Some true }
@@ -83,7 +83,7 @@ impl Arena {
         ensures tells { (k : ℕ) → slice_index_or seen.new.items k false ≡ true
             → ((k ≢ at) × (slice_index_or seen.old.items k false ≡ true)) ⊎ (IsChild self.now at k) }
     {
-        let node = self.nodes[at];
+        let node = self.nodes.node(at);
         seen[at] = false;
         if at > 1 {
             seen[node.low as usize] = true;

@@ -16,7 +16,7 @@ returns-clause-constant c =
 pub returns-clause-node : goal.returns-clause-node
 returns-clause-node c =
     let is : IsReduced c.args.self.now = subst IsReduced c.self.view_is c.self.invariant.is_reduced in
-    let reads : slice_get c.args.self.now.nodes c.args.f ≡ Some c.index-node.result.now =
-    subst (λ k. slice_get c.args.self.now.nodes k ≡ Some c.index-node.result.now) c.f.view_is
-    (subst (λ (d : Diagram). slice_get d.nodes c.f.inside.place ≡ Some c.index-node.result.now) c.self.view_is c.index-node.ensures) in
-    branch-at c.args.self.now is c.args.f c.index-node.result.now c.at.result c.at-2.result c.requires (omega (arith, c.if-f-lt2.false, c.f.view_is)) reads c.at.ensures c.at-2.ensures
+    let reads : slice_get c.args.self.now.nodes c.args.f ≡ Some c.node-node.result =
+    subst (λ k. slice_get c.args.self.now.nodes k ≡ Some c.node-node.result) c.f.view_is
+    (subst (λ (d : Diagram). slice_get d.nodes c.f.inside.place ≡ Some c.node-node.result) c.self.view_is c.node-node.ensures) in
+    branch-at c.args.self.now is c.args.f c.node-node.result c.at.result c.at-2.result c.requires (omega (arith, c.if-f-lt2.false, c.f.view_is)) reads c.at.ensures c.at-2.ensures

@@ -6,7 +6,7 @@ use Rattle.bdd_core.proofs.arena.Arena.note.Goals as goal
 
 pub invariant_of-self : goal.invariant_of-self
 invariant_of-self c =
-    let d : Diagram = record { levels = c.self.inside.levels; nodes = c.self.inside.nodes.keys } in
+    let d : Diagram = record { levels = c.self.inside.levels; nodes = c.self.inside.nodes } in
     let back : c.args.self.now ≡ d = sym (c.self.view_is ∙ c.make_room_for_choices.ensures) in
     gain_choice-holds d c.self.inside.choices.slots.items c.keep.new.self.slots.items c.self.inside.cuts.slots.items
     (record { f = c.ordered-f.result.0; g = c.ordered-f.result.1; h = c.ordered-f.result.2; answer = c.args.answer })

@@ -1,0 +1,9 @@
+pub mod WordLemmas
+pub mod BracketLemmas
+pub mod DigitLemmas
+pub mod OwnerLemmas
+pub mod FieldLemmas
+pub mod FormLemmas
+pub mod LineLemmas
+pub mod MostLemmas
+pub mod FieldTexts

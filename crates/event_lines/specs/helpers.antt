@@ -1,0 +1,4 @@
+pub mod Capped
+pub mod Values
+pub mod Declared
+pub mod Forms

@@ -1,0 +1,107 @@
+ghost use Rattle.std.specs.Prelude.{◌≤◌, IfSome, length};
+ghost use Rattle.rsml_meaning.specs.Words.{Each};
+ghost use Rattle.rsml_meaning.specs.Interfaces.{receives};
+ghost use Rattle.event_file.specs.Reading.{Fits, IsAllowed};
+
+use crate::line_texts::{push_line, room};
+use crate::reading::checked;
+use event_file::{Limits, LineReader, Next};
+use event_lines::LineForms;
+use rsml_io::{Files, MemoryFiles};
+use rsml_syntax::{Checked, NoMemory};
+use std::alloc::Global;
+
+/// The name of the file.
+const EVENTS: &str = "events";
+
+/// A file, how many bytes a read gives at most, and the number of a read that is refused, counted
+/// from 1.
+#[derive(Clone, Copy)]
+pub struct Given<'a> {
+    pub bytes: &'a [u8],
+    pub most: usize,
+    pub refused: Option<u64>,
+    pub limits: Limits,
+}
+
+/// Writes why there are no more lines.
+fn push_end(text: &mut String, next: Next, number: u64) -> Result<(), NoMemory> {
+    match next {
+        Next::Line => {}
+        Next::End => write!(text, "end {number}\n")?,
+        Next::ReadFault => text.push_str("fault read\n")?,
+        Next::LineTooLong => write!(text, "line {number} long\n")?,
+        Next::TooLong => text.push_str("fault long\n")?,
+    }
+    Ok(())
+}
+
+/// What each line of a file comes to, and how the file ends.
+fn push_lines<F: Files>(
+    text: &mut String,
+    forms: &LineForms<'_>,
+    files: &mut F,
+    name: &str,
+    reader: &mut LineReader,
+    values: &mut [i64],
+) -> Result<(), NoMemory>
+    requires fits { IfSome (F.contents files.old name.now) (λ content. Fits content reader.old) }
+    requires room { Each (λ x. length x.inputs ≤ length values.old) (receives forms.now) }
+{
+    for _turn in 0..u64::MAX {
+        match reader.next(files, name) {
+            Next::Line => {
+                write!(text, "{} ", reader.number())?;
+                push_line(text, forms, reader.line(), values)?;
+            }
+            other => return push_end(text, other, reader.number()),
+        }
+    }
+    Ok(())
+}
+
+/// The file in memory.
+fn files(alloc: Global, given: Given<'_>) -> Result<MemoryFiles, NoMemory> {
+    let mut files = MemoryFiles::new(alloc, given.most.max(1));
+    files.add(EVENTS, given.bytes)?;
+    if let Some(call) = given.refused {
+        files.fail_call(call)?;
+    }
+    Ok(files)
+}
+
+/// What each line of a file comes to by the forms of lines.
+fn read(alloc: Global, forms: &LineForms<'_>, given: Given<'_>) -> Result<String, NoMemory>
+    requires { IsAllowed given.limits }
+{
+    let mut text = String::new(alloc);
+    let mut files = files(alloc, given)?;
+    let mut reader = LineReader::new(alloc, given.limits)?;
+    let mut values = room(alloc, forms)?;
+    push_lines(
+        &mut text,
+        forms,
+        &mut files,
+        EVENTS,
+        &mut reader,
+        values.as_mut_slice(),
+    )?;
+    Ok(text)
+}
+
+/// What each line of a file comes to by a specification.
+fn written(alloc: Global, checked: &Checked, given: Given<'_>) -> Result<String, NoMemory>
+    requires { IsAllowed given.limits }
+{
+    let forms = LineForms::build(alloc, checked)?;
+    read(alloc, &forms, given)
+}
+
+/// What each line of a file comes to by the specification of a text, and how the file ends. None
+/// where the text is none that keeps the rules, or memory runs out.
+pub fn file_lines(alloc: Global, text: &str, given: Given<'_>) -> Option<String>
+    requires { IsAllowed given.limits }
+{
+    let checked = checked(alloc, text)?;
+    written(alloc, &checked, given).ok()
+}
