@@ -14,13 +14,20 @@ use std::alloc::Global;
 /// The name of the file.
 const EVENTS: &str = "events";
 
-/// A file, how many bytes a read gives at most, and the number of a read that is refused, counted
-/// from 1.
+/// The limits of the program.
+pub const LIMITS: Limits = Limits {
+    line: 4096,
+    file: 4_294_967_296,
+};
+
+/// A file, how many bytes a read gives at most, the number of a read that is refused, counted from 1, and the place from which
+/// all reads are refused.
 #[derive(Clone, Copy)]
 pub struct Given<'a> {
     pub bytes: &'a [u8],
     pub most: usize,
     pub refused: Option<u64>,
+    pub broken_at: Option<u64>,
     pub limits: Limits,
 }
 
@@ -67,6 +74,9 @@ fn files(alloc: Global, given: Given<'_>) -> Result<MemoryFiles, NoMemory> {
     if let Some(call) = given.refused {
         files.fail_call(call)?;
     }
+    if let Some(at) = given.broken_at {
+        files.fail_from(EVENTS, at)?;
+    }
     Ok(files)
 }
 
@@ -104,4 +114,32 @@ pub fn file_lines(alloc: Global, text: &str, given: Given<'_>) -> Option<String>
 {
     let checked = checked(alloc, text)?;
     written(alloc, &checked, given).ok()
+}
+
+/// Whether a file comes to these lines, in pieces of each size from 1 to 40 bytes.
+pub fn comes_to(
+    alloc: Global,
+    text: &str,
+    bytes: &[u8],
+    broken_at: Option<u64>,
+    lines: &str,
+) -> bool {
+    for most in 1..41 {
+        let given = Given {
+            bytes,
+            most,
+            refused: None,
+            broken_at,
+            limits: LIMITS,
+        };
+        match file_lines(alloc, text, given) {
+            Some(found) => {
+                if found.as_str() != lines {
+                    return false;
+                }
+            }
+            None => return false,
+        }
+    }
+    true
 }

@@ -6,6 +6,8 @@ mod file_lines;
 #[cfg(test)]
 mod line_texts;
 #[cfg(test)]
+mod long_lines;
+#[cfg(test)]
 mod reading;
 #[cfg(test)]
 mod single_lines;

@@ -33,8 +33,8 @@ fn reads_heights_of_any_length(rt: HostRuntime) -> Result<(), Fail> {
         b"Set Alt=-1",
         b"Set Alt=0005",
         b"Set Alt=-0",
-        b"Set Alt=9999",
-        b"Set Alt=10000",
+        b"Set Alt=60000",
+        b"Set Alt=60001",
         b"Set Alt=18446744073709551617",
         b"Set Alt=-18446744073709551617",
         b"Set Alt=99999999999999999999999999999999x",
@@ -44,7 +44,7 @@ fn reads_heights_of_any_length(rt: HostRuntime) -> Result<(), Fail> {
     ];
     assert_eq!(rt;
         line_texts(rt.alloc(), HEIGHT, lines).as_deref(),
-        Some("E6\nE7\n0: 5\n0: 0\n0: 9999\nE7\nE7\nE7\nE6\nE6\nE6\nE6\n")
+        Some("E6\nE7\n0: 5\n0: 0\n0: 60000\nE7\nE7\nE7\nE6\nE6\nE6\nE6\n")
     );
     Ok(())
 }

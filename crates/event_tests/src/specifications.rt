@@ -11,7 +11,7 @@ state Lamp;\n\
 /// A height.
 pub const HEIGHT: &str = "\
 specification Height;\n\
-range Feet 0 .. 9999;\n\
+range Feet 0 .. 60000;\n\
 input Alt : Feet = 0;\n\
 event Tick;\n\
 receive Set (Alt) raise Tick;\n\

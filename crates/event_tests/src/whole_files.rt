@@ -1,13 +1,7 @@
-use crate::file_lines::{Given, file_lines};
-use crate::specifications::LAMP;
+use crate::file_lines::{Given, LIMITS, comes_to, file_lines};
+use crate::specifications::{HEIGHT, LAMP, PAIR};
 use event_file::Limits;
 use std::test::Fail;
-
-/// The limits of the program.
-const LIMITS: Limits = Limits {
-    line: 4096,
-    file: 4_294_967_296,
-};
 
 /// A comment, an empty line, and two events, the last without a line end.
 const FILE: &[u8] = b"# start\r\n\r\nSet Lever=Up\r\nSet Lever=Down";
@@ -16,19 +10,66 @@ const FILE: &[u8] = b"# start\r\n\r\nSet Lever=Up\r\nSet Lever=Down";
 const LINES: &str = "1 -\n2 -\n3 0: 1\n4 0: 0\n";
 
 #[test]
-fn reads_a_file_in_pieces_of_any_size(rt: HostRuntime) -> Result<(), Fail> {
-    for most in 1..41 {
-        let given = Given {
-            bytes: FILE,
-            most,
-            refused: None,
-            limits: LIMITS,
-        };
-        assert_eq!(rt;
-            file_lines(rt.alloc(), LAMP, given).as_deref(),
-            Some("1 -\n2 -\n3 0: 1\n4 0: 0\nend 4\n")
-        );
-    }
+fn reads_files_in_pieces_of_any_size(rt: HostRuntime) -> Result<(), Fail> {
+    assert!(rt;
+        comes_to(
+            rt.alloc(),
+            LAMP,
+            FILE,
+            None,
+            "1 -\n2 -\n3 0: 1\n4 0: 0\nend 4\n"
+        )
+    );
+    assert!(rt;
+        comes_to(
+            rt.alloc(),
+            PAIR,
+            b"R X=-2 Y=Red",
+            None,
+            "1 0: -2 0\nend 1\n"
+        )
+    );
+    Ok(())
+}
+
+#[test]
+fn tells_the_number_of_a_line_that_breaks_a_rule(rt: HostRuntime) -> Result<(), Fail> {
+    assert!(rt;
+        comes_to(
+            rt.alloc(),
+            LAMP,
+            b"Set Lever=Up\nSet Lever=Side\n",
+            None,
+            "1 0: 1\n2 E6\nend 2\n"
+        )
+    );
+    let heights = b"Set Alt=5\nSet Alt=1000\nSet Alt=60001\n";
+    assert!(rt;
+        comes_to(
+            rt.alloc(),
+            HEIGHT,
+            heights,
+            None,
+            "1 0: 5\n2 0: 1000\n3 E7\nend 3\n"
+        )
+    );
+    Ok(())
+}
+
+#[test]
+fn reads_the_lines_before_the_place_from_which_reads_are_refused(
+    rt: HostRuntime,
+) -> Result<(), Fail> {
+    let heights = b"Set Alt=5\nSet Alt=1000\n";
+    assert!(rt;
+        comes_to(
+            rt.alloc(),
+            HEIGHT,
+            heights,
+            Some(10),
+            "1 0: 5\nfault read\n"
+        )
+    );
     Ok(())
 }
 
@@ -39,6 +80,7 @@ fn ends_at_a_refused_read_with_the_whole_lines_before(rt: HostRuntime) -> Result
             bytes: FILE,
             most: 1,
             refused: Some(call),
+            broken_at: None,
             limits: LIMITS,
         };
         let lines = file_lines(rt.alloc(), LAMP, given).ok_or("no lines")?;
@@ -55,6 +97,7 @@ fn ends_where_no_whole_line_is_left_before_the_limit(rt: HostRuntime) -> Result<
         bytes: b"Set Lever=Up\nSet Lever=Up\n",
         most: 7,
         refused: None,
+        broken_at: None,
         limits: Limits {
             line: 4096,
             file: 13,
@@ -83,6 +126,7 @@ fn takes_off_one_return(rt: HostRuntime) -> Result<(), Fail> {
         bytes: b"Set Lever=Up\r\r\nSet Lever=Up\r\n",
         most: 3,
         refused: None,
+        broken_at: None,
         limits: LIMITS,
     };
     assert_eq!(rt;
