@@ -22,7 +22,7 @@ class Specification:
     def __init__(self, text):
         self.tokens, self.at = TOKEN.findall(text), 0
         self.states, self.components, self.default = [], {}, {}
-        self.inputs, self.events, self.previous = [], [], set()
+        self.inputs, self.events, self.previous, self.moves = [], [], set(), {}
         for place, token in enumerate(self.tokens):
             if token == "previous":
                 self.previous.add(self.tokens[place + 1])
@@ -50,10 +50,11 @@ class Specification:
             first = not (token in ";}" and depth == 0)
 
     def plan(self):
-        """What stands after a state's name: its kind, its default and its children, each with a size and a plan of its own."""
+        """What stands after a state's name: its kind, its default, its children, each with a size and a plan of its own, and
+        what leads between them."""
         kind = self.take()
         if kind == ";":
-            return kind, None, []
+            return kind, None, [], None
         self.take()
         default, children = None, []
         if kind == "one":
@@ -64,21 +65,28 @@ class Specification:
             is_array, name, size = self.take() == "array", self.take(), 0
             if is_array:
                 self.take()
-                size = int(self.take())
+                size = self.amount(self.take())
                 self.take()
             children.append((name, size, self.plan()))
+        return kind, default, children, self.leading()
+
+    def amount(self, token):
+        return int(token)
+
+    def leading(self):
+        """The buses and transitions of a state, up to its end: here they are left out."""
         depth = 1
         while depth:
             token = self.take()
             depth += (token == "{") - (token == "}")
-        return kind, default, children
 
     def body(self, plan, path):
-        kind, default, children = plan
+        kind, default, children, moves = plan
         self.states.append(path)
         if kind == "one":
             self.components[path] = [(name, 0) for name, _, _ in children]
             self.default[path] = (default, 0)
+            self.moves[path] = moves
         for name, size, inner in children:
             for index in range(1, size + 1) if size else [0]:
                 self.body(inner, (*path, (name, index)))
@@ -189,20 +197,21 @@ def constants(text):
     return {name: re.sub(r"\\\n\s*", "", value).replace("\\n", "\n") for name, value in found}
 
 
-def main():
-    texts = {it: it.read_text(encoding="utf-8") for it in sorted(FOLDER.glob("*.rt"))}
+def compare(folder, read, tables_of):
+    """Compares the tables of a folder with those that are worked out: a table of the specification that its file names."""
+    texts = {it: it.read_text(encoding="utf-8") for it in sorted(folder.glob("*.rt"))}
     specifications = {name: value for it in texts.values() for name, value in constants(it).items() if value.startswith("specification")}
     right = wrong = 0
     for file, text in texts.items():
         named = [name for name in specifications if re.search(rf"\b{name}\b", text)]
-        tables = {name: value for name, value in constants(text).items() if name in TABLES}
+        tables = {name: value for name, value in constants(text).items() if name in tables_of}
         if tables and len(named) != 1:
             print(f"{file.name}: it names {len(named)} specifications, and one is read")
             wrong += len(tables)
             continue
         for name, value in tables.items():
             wanted = value.strip("\n").split("\n")
-            found = TABLES[name](Specification(specifications[named[0]]), wanted)
+            found = tables_of[name](read(specifications[named[0]]), wanted)
             right, wrong = right + (found == wanted), wrong + (found != wanted)
             for one, other in itertools.zip_longest(wanted, found):
                 if one != other:
@@ -212,4 +221,4 @@ def main():
 
 
 if __name__ == "__main__":
-    sys.exit(main())
+    sys.exit(compare(FOLDER, Specification, TABLES))
