@@ -116,7 +116,31 @@ pub fn file_lines(alloc: Global, text: &str, given: Given<'_>) -> Option<String>
     written(alloc, &checked, given).ok()
 }
 
-/// Whether a file comes to these lines, in pieces of each size from 1 to 40 bytes.
+/// Whether a file comes to these lines.
+fn has_lines(alloc: Global, text: &str, given: Given<'_>, lines: &str) -> bool
+    requires { IsAllowed given.limits }
+{
+    match file_lines(alloc, text, given) {
+        Some(found) => found.as_str() == lines,
+        None => false,
+    }
+}
+
+/// Whether a file comes to the first of these lines, and then to a refused read, or to all of them.
+fn has_first_lines(alloc: Global, text: &str, given: Given<'_>, lines: &str) -> bool
+    requires { IsAllowed given.limits }
+{
+    let Some(found) = file_lines(alloc, text, given) else {
+        return false;
+    };
+    match found.as_str().strip_suffix("fault read\n") {
+        Some(before) => lines.starts_with(before),
+        None => found.as_str() == lines,
+    }
+}
+
+/// Whether a file comes to these lines, in pieces of each size from 1 to 40 bytes, and to the first of them where one of the first
+/// 40 reads, each of 7 bytes, is refused.
 pub fn comes_to(
     alloc: Global,
     text: &str,
@@ -124,21 +148,26 @@ pub fn comes_to(
     broken_at: Option<u64>,
     lines: &str,
 ) -> bool {
-    for most in 1..41 {
-        let given = Given {
+    for number in 1..41 {
+        let whole = Given {
             bytes,
-            most,
+            most: number,
             refused: None,
             broken_at,
             limits: LIMITS,
         };
-        match file_lines(alloc, text, given) {
-            Some(found) => {
-                if found.as_str() != lines {
-                    return false;
-                }
-            }
-            None => return false,
+        if !has_lines(alloc, text, whole, lines) {
+            return false;
+        }
+        let cut_off = Given {
+            bytes,
+            most: 7,
+            refused: Some(number as u64),
+            broken_at,
+            limits: LIMITS,
+        };
+        if !has_first_lines(alloc, text, cut_off, lines) {
+            return false;
         }
     }
     true

@@ -1,5 +1,5 @@
 use crate::file_lines::{Given, LIMITS, comes_to, file_lines};
-use crate::specifications::{HEIGHT, LAMP, PAIR};
+use crate::specifications::{HEIGHT, LAMP, PAIR, TRACKS};
 use event_file::Limits;
 use std::test::Fail;
 
@@ -51,6 +51,57 @@ fn tells_the_number_of_a_line_that_breaks_a_rule(rt: HostRuntime) -> Result<(), 
             heights,
             None,
             "1 0: 5\n2 0: 1000\n3 E7\nend 3\n"
+        )
+    );
+    Ok(())
+}
+
+#[test]
+fn tells_the_rule_that_each_line_breaks(rt: HostRuntime) -> Result<(), Fail> {
+    let lever =
+        b"Sett Lever=Up\nSet[1] Lever=Up\nSet\nSet Lever = Up\nSet Lever=Up x\nSet Lever=Side\nSet \xff\n";
+    assert!(rt;
+        comes_to(
+            rt.alloc(),
+            LAMP,
+            lever,
+            None,
+            "1 E2\n2 E3\n3 E4\n4 E4\n5 E5\n6 E6\n7 E1\nend 7\n"
+        )
+    );
+    let heights = b"Set Alt=5x\nSet Alt=-1\nSet Alt=0005";
+    assert!(rt;
+        comes_to(
+            rt.alloc(),
+            HEIGHT,
+            heights,
+            None,
+            "1 E6\n2 E7\n3 0: 5\nend 3\n"
+        )
+    );
+    assert!(rt;
+        comes_to(
+            rt.alloc(),
+            TRACKS,
+            b"Track Other_Alt=1",
+            None,
+            "1 E3\nend 1\n"
+        )
+    );
+    Ok(())
+}
+
+#[test]
+fn tells_the_rule_that_each_pair_breaks(rt: HostRuntime) -> Result<(), Fail> {
+    let pairs =
+        b"R X=9 Y=Green\nR X=1 Y=1\nR X=+1 Y=Red\nR X=-2 Y=Red\r\r\nR X=-2 Y=Red\r\nR X= Y=Red\nR Y=Red X=1\nR X=1 Y=Red z\nR X=--1 Y=Red";
+    assert!(rt;
+        comes_to(
+            rt.alloc(),
+            PAIR,
+            pairs,
+            None,
+            "1 E6\n2 E6\n3 E6\n4 E6\n5 0: -2 0\n6 E6\n7 E4\n8 E5\n9 E6\nend 9\n"
         )
     );
     Ok(())
