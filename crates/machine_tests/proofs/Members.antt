@@ -9,7 +9,7 @@ use Rattle.rsml_ground.specs.declared.definitions.GroundGuard.{GroundGuard}
 use Rattle.rsml_ground.specs.declared.definitions.GroundGuard.TheVariants as guards
 use Rattle.rsml_ground.specs.Rests.{GuardFits, CaseFits}
 use Rattle.macros.specs.Guards.{GuardBelow, HasShape}
-use Rattle.machine_tests.specs.Cases.{AreCases}
+use Rattle.machine_tests.specs.helpers.Cases.{AreCases}
 
 -- a place below the number of a group's members is that of one
 pub member_place : (s : Spec) (group n place : ℕ) → ((g : Group) → slice_get (groups s) group ≡ Some g → n ≡ length (members s g)) → place < n

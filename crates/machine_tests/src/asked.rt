@@ -3,7 +3,7 @@ ghost use Rattle.rsml_meaning.specs.Groups as meaning;
 ghost use Rattle.rsml_meaning.specs.Groups.{Group};
 ghost use Rattle.rsml_meaning.specs.Worlds.{IsWorld};
 ghost use Rattle.rsml_ground.specs.Rests.{GuardFits};
-ghost use Rattle.machine_tests.specs.Cases.{AreCases};
+ghost use Rattle.machine_tests.specs.helpers.Cases.{AreCases};
 
 use and_or_tables::Truths;
 use elaborate::Machine;
