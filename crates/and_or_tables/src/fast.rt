@@ -64,7 +64,7 @@ impl FastTable {
 fn phrases_of(alloc: Global, rows: &[GroundRow]) -> Result<Vec<u32>, NoMemory>
     ensures { IfOk result (λ phrases. phrases.items ≡ map (λ row. row.phrase) rows.now) }
 {
-    let mut phrases = Vec::new(alloc);
+    let mut phrases = Vec::with_capacity(alloc, rows.len())?;
     for row in rows {
         phrases.push(row.phrase)?;
     }

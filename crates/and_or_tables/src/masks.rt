@@ -40,9 +40,10 @@ impl MaskTable {
         ensures { IfOk result (λ masks. masks ≡ cells_of table.now) }
     {
         let rows = table.rows.as_slice();
-        let mut care = Vec::new(alloc);
-        let mut want = Vec::new(alloc);
-        for place in 0..column_count(table) {
+        let columns = column_count(table);
+        let mut care = Vec::with_capacity(alloc, columns)?;
+        let mut want = Vec::with_capacity(alloc, columns)?;
+        for place in 0..columns {
             let words = column_words(rows, place);
             care.push(words.care)?;
             want.push(words.want)?;

@@ -16,7 +16,7 @@ pub fn tables_of(
     requires { All (λ d. All HasShape (spec.guards_of d)) definitions.now }
     ensures { IfOk result (λ tables. tables.items ≡ map spec.guards_of definitions.now) }
 {
-    let mut tables = Vec::new(alloc);
+    let mut tables = Vec::with_capacity(alloc, definitions.len())?;
     for definition in definitions {
         tables.push(guards_of(alloc, definition)?)?;
     }
@@ -30,7 +30,7 @@ fn guards_of(alloc: Global, definition: &Definition) -> Result<List<FastGuard>, 
 {
     match definition {
         Definition::Macro(table) => {
-            let mut guards = List::new(alloc);
+            let mut guards = List::with_capacity(alloc, 1)?;
             guards.push(FastGuard::of_table(alloc, table)?)?;
             Ok(guards)
         }
@@ -43,7 +43,7 @@ fn guards_of_cases(alloc: Global, cases: &[GroundCase]) -> Result<List<FastGuard
     requires { All (λ c. HasShape c.guard) cases.now }
     ensures { IfOk result (λ guards. guards ≡ map (λ c. c.guard) cases.now) }
 {
-    let mut guards = List::new(alloc);
+    let mut guards = List::with_capacity(alloc, cases.len())?;
     for case in cases {
         guards.push(FastGuard::new(alloc, &case.guard)?)?;
     }

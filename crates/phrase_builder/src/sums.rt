@@ -49,7 +49,7 @@ fn terms(
     requires { Each (λ t. OperandIsScoped lookup.now here.now t.operand) terms.now }
     ensures { IfOk result (λ g. AllZip (TermIs lookup.now here.now) terms.now g) }
 {
-    let mut found = List::new(alloc);
+    let mut found = List::with_capacity(alloc, terms.len())?;
     for term in terms {
         let operand = operand(lookup, here, &term.operand);
         found.push(GroundTerm {

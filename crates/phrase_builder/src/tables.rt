@@ -21,7 +21,7 @@ use std::alloc::Global;
 fn copied(alloc: Global, cells: &[Cell]) -> Result<List<Cell>, NoMemory>
     ensures { IfOk result (λ copy. copy ≡ cells.now) }
 {
-    let mut copy = List::new(alloc);
+    let mut copy = List::with_capacity(alloc, cells.len())?;
     for cell in cells {
         copy.push(*cell)?;
     }

@@ -18,7 +18,7 @@ fn keeps_items_in_order(rt: HostRuntime) -> Result<(), Fail> {
 
 #[test]
 fn goes_over_items_in_order(rt: HostRuntime) -> Result<(), Fail> {
-    let mut list = List::new(rt.alloc());
+    let mut list = List::with_capacity(rt.alloc(), 2)?;
     for item in [4u32, 5, 6] {
         assert_eq!(rt; list.push(item), Ok(()));
     }
