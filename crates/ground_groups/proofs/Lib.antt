@@ -7,5 +7,6 @@ mod Matched
 mod Order
 pub mod Putting
 pub mod Rising
+mod Runs
 mod StateLots
 pub mod Tables

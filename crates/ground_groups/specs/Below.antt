@@ -1,5 +1,5 @@
 -- States inside others, by keys.
-use Rattle.std.specs.Prelude.{ℕ, ◌<◌, Bool, ◌&&◌, List, map, filter, length, nat_eq, nat_lt}
+use Rattle.std.specs.Prelude.{ℕ, ◌<◌, ◌≤◌, Bool, ◌&&◌, List, map, filter, length, take, drop, nat_eq, nat_lt}
 use Rattle.rsml_syntax.specs.declared.syntax.Spec.{Spec}
 use Rattle.rsml_meaning.specs.Words.{Each, on_one_line}
 use Rattle.rsml_meaning.specs.Instances.{states}
@@ -17,3 +17,9 @@ is_inside s key other = nat_eq other.event key.event && (nat_lt key.owner other.
 -- the states of those keys
 abbrev pub below_of : Spec → List Key → Key → List ℕ
 below_of s keys key = map (λ q. q.owner) (filter (is_inside s key) keys)
+
+-- The place where the keys of the states behind one begin.
+pub record IsPast (keys : List Key) (state place : ℕ) : Type 0 where
+  pub within : place ≤ length keys
+  pub low : Each (λ q. q.owner ≤ state) (take place keys)
+  pub high : Each (λ q. state < q.owner) (drop place keys)

@@ -1,5 +1,6 @@
-use Rattle.std.proofs.Common.{◌≡◌, ◌+◌, length, map, arith, ◌∙◌}
+use Rattle.std.proofs.Common.{◌≡◌, ◌+◌, length, map, arith, sym, ◌∙◌, subst}
 use Rattle.ground_groups.specs.Below.{below_of}
+use Rattle.ground_groups.specs.Heads.{AreRising}
 use Rattle.ground_groups.proofs.GroupLemmas.{all_stored, keys_there}
 use Rattle.ground_groups.proofs.groups.Groups.build.Goals as goal
 
@@ -24,8 +25,13 @@ invariant_of-result c =
     (c.in_ok-functions.ensures c.requires.definitions.0 s c.requires.definitions.1)
     count
 
-pub below-requires : goal.below-requires
-below-requires c =
+pub below-requires-clause-there : goal.below-requires-clause-there
+below-requires-clause-there c =
     let states = c.in_ok-states.states in
     keys_there c.args.checked.now c.args.tree.now states.heads.keys c.as_slice.result.now (map (λ l. l.items) states.places.items) c.requires.tree c.as_slice.ensures.keys
     (c.in_ok-states.ensures c.requires.transitions.0 c.args.checked.now c.spec-spec.ensures.checked c.requires.transitions.1)
+
+pub below-requires-clause-rising : goal.below-requires-clause-rising
+below-requires-clause-rising c =
+    subst AreRising (sym c.as_slice.ensures.keys)
+    (c.in_ok-states.ensures c.requires.transitions.0 c.args.checked.now c.spec-spec.ensures.checked c.requires.transitions.1).rising
