@@ -10,6 +10,14 @@ use Rattle.micro_step.specs.Rising.{AreRising, among}
 use Rattle.micro_step.specs.Places.{passes, places_where, items_where, ArePlaces}
 use Rattle.micro_step.proofs.RisingLemmas.{no_more, or_group, same_rising}
 
+-- where all that a set has is below an end, and nothing from a number to there, it has nothing from that number on
+pub none_left : (h : ℕ → Bool) (end from : ℕ) → ((k : ℕ) → h k ≡ true → k < end) → ((q : ℕ) → from ≤ q → q < end → h q ≡ false) → (q : ℕ) → from ≤ q → h q ≡ false
+none_left h end from below none q l = by (h q) refl
+  where
+    by : (b : Bool) → h q ≡ b → h q ≡ false
+    by true e = none q l (below q e)
+    by false e = e
+
 -- The places of the items that pass.
 
 from_first : {A : Type 0} (t : A → Bool) (n : ℕ) (xs : List A) (low : ℕ) → low ≤ n → Each (λ k. low ≤ k) (places_where t n xs)

@@ -81,8 +81,9 @@ pub fn send(
     ensures bound { sent.new.below ≡ length machine.now.send_cases }
     ensures knows { Knows machine.now.base world.now memo.new }
 {
+    let count = machine.events() as usize;
     let mut from = 0;
-    while let Some(event) = present.next(from) {
+    while let Some(event) = present.next_below(from, count) {
         send_on(machine, world, memo, event as u32, sent);
         from = event + 1;
     }

@@ -99,8 +99,9 @@ pub fn take(
     ensures bound { taken.new.below ≡ length machine.now.transitions }
     ensures knows { Knows machine.now.base world.now memo.new }
 {
+    let count = machine.events() as usize;
     let mut from = 0;
-    while let Some(event) = present.next(from) {
+    while let Some(event) = present.next_below(from, count) {
         take_on(machine, world, memo, event as u32, taken);
         from = event + 1;
     }

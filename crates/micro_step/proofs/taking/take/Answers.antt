@@ -1,8 +1,8 @@
-use Rattle.std.proofs.Common.{◌&&◌, List, ℕ, sym, refl, ap, ◌∙◌, subst}
+use Rattle.std.proofs.Common.{◌&&◌, List, ℕ, sym, refl, ap, ◌∙◌, subst, arith}
 use Rattle.elaborate.specs.Enabled.{is_enabled}
 use Rattle.micro_step.specs.Rising.{AreRising, among}
 use Rattle.micro_step.specs.Sets.{has}
-use Rattle.micro_step.proofs.PlaceLemmas.{events_none, events_more, events_all, are_places}
+use Rattle.micro_step.proofs.PlaceLemmas.{events_none, events_more, events_all, are_places, none_left}
 use Rattle.micro_step.proofs.taking.take.Goals as goal
 
 pub loop-event-init : goal.loop-event-init
@@ -32,4 +32,4 @@ pub returns-clause-taken : goal.returns-clause-taken
 returns-clause-taken c =
     let m = c.args.machine.now in
     are_places (λ x. has c.args.present.now x.event && is_enabled m c.args.world.now x) m.transitions c.loop-event.taken.items c.loop-event.invariant.rising
-    (λ q. c.loop-event.invariant.so_far q ∙ events_all (has c.args.present.now) (λ x. x.event) (is_enabled m c.args.world.now) m.transitions q c.loop-event.from (c.in_default.ensures.none refl))
+    (λ q. c.loop-event.invariant.so_far q ∙ events_all (has c.args.present.now) (λ x. x.event) (is_enabled m c.args.world.now) m.transitions q c.loop-event.from (none_left (has c.args.present.now) c.events-count.result c.loop-event.from (λ k e. let b = c.requires.present k e in omega (arith, b, c.events-count.ensures.count)) (c.in_default.ensures.none refl)))
