@@ -1,13 +1,14 @@
 ghost use Rattle.std.specs.Prelude.{◌<◌};
 
-use event_graph::{Chains, Clash, EventGraph};
+use event_graph::{Chains, Clash, EventGraph, Rounds};
 use rsml_base::NoMemory;
 use std::alloc::Global;
 use std::test::Fail;
 
-/// A graph of four events in bits: bit `4 * a + b` says whether a leads to b, or meets it.
+/// A graph of at most four events in bits: bit `4 * a + b` says whether a leads to b, or meets it.
 #[derive(Clone, Copy)]
 struct Small {
+    count: u32,
     leads: u32,
     starts: u32,
     meets: u32,
@@ -40,7 +41,7 @@ fn tell(graph: &mut EventGraph, small: Small, a: u32, b: u32)
 }
 
 fn built(alloc: Global, small: Small) -> Result<EventGraph, NoMemory> {
-    let mut graph = EventGraph::new(alloc, 4)?;
+    let mut graph = EventGraph::new(alloc, small.count.min(4))?;
     for place in 0..16 {
         tell(&mut graph, small, place / 4, place % 4);
     }
@@ -139,58 +140,89 @@ fn clash(small: Small, start: u32) -> Option<Clash>
     None
 }
 
-/// The ways of three events, three bits for each, as those of four of which the last has none.
-fn of_three(bits: u32) -> u32 {
-    (bits & 7) | (((bits >> 3) & 7) << 4) | (((bits >> 6) & 7) << 8)
-}
-
-/// How many graphs of three events, with these meetings, have another answer for some event.
-fn wrong_of_three(alloc: Global, meets: u32) -> Result<u32, NoMemory> {
-    let mut wrong = 0u32;
-    for bits in 0..512 {
-        if !all_right(alloc, of_three(bits), meets)? {
-            wrong = wrong.saturating_add(1);
+/// Whether the events of a round are those that end chains of n events.
+fn is_round(rounds: &Rounds<'_>, small: Small, mask: u32) -> bool {
+    for event in 0..small.count {
+        if event >= 4 || event >= rounds.graph().count() || rounds.has(event) != bit(mask, event) {
+            return false;
         }
     }
-    Ok(wrong)
+    true
 }
 
-/// The same of 1,500 graphs of four events.
-fn wrong_of_four(alloc: Global, meets: u32) -> Result<u32, NoMemory> {
-    let mut wrong = 0u32;
-    for place in 0..1500 {
-        if !all_right(alloc, (place * 40_503) & 0xffff, meets)? {
-            wrong = wrong.saturating_add(1);
+/// Whether the rounds of an event are those found by trying.
+fn are_rounds(graph: &EventGraph, small: Small, event: u32) -> bool
+    requires small { event < 4 }
+    requires event { event < graph.now.count }
+{
+    let mut rounds = Rounds::new(graph);
+    rounds.first(event);
+    for n in 1..6 {
+        if !is_round(&rounds, small, ends(small, event, n)) {
+            return false;
         }
+        rounds.next();
     }
-    Ok(wrong)
+    true
 }
 
-/// Whether all answers on a graph with two starts are those found by trying.
-fn all_right(alloc: Global, leads: u32, meets: u32) -> Result<bool, NoMemory> {
-    let small = Small {
-        leads,
-        starts: 3,
-        meets,
-    };
+/// Whether all answers on an event are those found by trying.
+fn is_right(chains: &Chains, small: Small, event: u32) -> bool
+    requires { event < 4 }
+{
+    event < chains.graph().count()
+        && chains.length(event) == length(small, event)
+        && chains.clash(event) == clash(small, event)
+        && chains.loops().contains(&event) == loops(small, event)
+        && are_rounds(chains.graph(), small, event)
+}
+
+/// Whether all answers on a graph are those found by trying.
+fn all_right(alloc: Global, small: Small) -> Result<bool, NoMemory> {
     let chains = Chains::build(alloc, built(alloc, small)?)?;
-    for event in 0..4 {
-        if event >= chains.graph().count()
-            || chains.length(event) != length(small, event)
-            || chains.clash(event) != clash(small, event)
-            || chains.loops().contains(&event) != loops(small, event)
-        {
+    for event in 0..small.count {
+        if event >= 4 || !is_right(&chains, small, event) {
             return Ok(false);
         }
     }
     Ok(true)
 }
 
+/// Whether only events of the graph lead, and only to events of the graph.
+fn is_within(small: Small) -> bool {
+    for place in 0..16 {
+        if bit(small.leads, place) && (place / 4).max(place % 4) >= small.count {
+            return false;
+        }
+    }
+    true
+}
+
+/// On how many graphs of so many events, with these starts and meetings, some answer is another.
+fn wrong(alloc: Global, count: u32, starts: u32, meets: u32) -> Result<u32, NoMemory> {
+    let mut wrong = 0u32;
+    for leads in 0..0x1_0000 {
+        let small = Small {
+            count,
+            leads,
+            starts,
+            meets,
+        };
+        if is_within(small) && !all_right(alloc, small)? {
+            wrong = wrong.saturating_add(1);
+        }
+    }
+    Ok(wrong)
+}
+
 #[test]
 fn answers_on_small_graphs_are_those_found_by_trying(rt: HostRuntime) -> Result<(), Fail> {
-    for meets in [0x7bde, 0x0012, 0x4812, 0x0240] {
-        assert_eq!(rt; wrong_of_three(rt.alloc(), meets), Ok(0));
-        assert_eq!(rt; wrong_of_four(rt.alloc(), meets), Ok(0));
+    for meets in [0xffff, 0x0012, 0xcc33, 0x0240] {
+        for count in 1..5 {
+            assert_eq!(rt; wrong(rt.alloc(), count, 0, meets), Ok(0));
+            assert_eq!(rt; wrong(rt.alloc(), count, 1, meets), Ok(0));
+            assert_eq!(rt; wrong(rt.alloc(), count, 3, meets), Ok(0));
+        }
     }
     Ok(())
 }
