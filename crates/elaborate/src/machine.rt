@@ -170,6 +170,13 @@ impl<'a> Machine<'a> {
         self.behaviour.members().count()
     }
 
+    /// The transitions, each at the place of its number.
+    pub fn all_transitions(&self) -> &[GroundTransition]
+        ensures { result.now ≡ self.now.transitions }
+    {
+        self.behaviour.members().transitions()
+    }
+
     /// A transition.
     pub fn transition(&self, number: u32) -> &GroundTransition
         requires { number < length self.now.transitions }
@@ -201,6 +208,13 @@ impl<'a> Machine<'a> {
         ensures { result ≡ length self.now.send_cases }
     {
         self.behaviour.members().case_count()
+    }
+
+    /// The cases of sends, each at the place of its number.
+    pub fn all_send_cases(&self) -> &[GroundSendCase]
+        ensures { result.now ≡ self.now.send_cases }
+    {
+        self.behaviour.members().send_cases()
     }
 
     /// A case of a send.
