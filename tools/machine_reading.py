@@ -26,7 +26,8 @@ class Machine(Specification):
         self.cells = [*[(it, False) for it in self.inputs], *[(it, True) for it in self.inputs if it[0] in self.previous]]
         self.transitions = [it for path in self.components for it in self.transitions_of(path)]
         self.cases = [(send, at, *self.case(send, case)) for send in self.sends for at, case in enumerate(self.content[send[0]], 1)]
-        self.external = {self.instance(self.content[name], index) for name, index in self.instances("receive")}
+        self.receives = self.instances("receive")
+        self.external = {self.instance(self.content[name][1], index) for name, index in self.receives}
 
     # What is read.
 
@@ -123,12 +124,13 @@ class Machine(Specification):
         return value, guard
 
     def read_receive(self, name):
-        while self.take() != ")":
-            pass
+        self.skip("(")
+        inputs = [] if self.sees(")") else self.repeated(self.reference)
+        self.skip(")")
         self.skip("raise")
         raised = self.reference()
         self.skip(";")
-        return raised
+        return inputs, raised
 
     def read_send(self, name):
         while self.take() != ")":
