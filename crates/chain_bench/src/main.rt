@@ -1,53 +1,49 @@
-//! Finds the chains of the graphs that its arguments name, as `ladder`, and prints how many events
-//! loop and how many starts clash. After the word `seconds` it prints the time of each, too.
+//! Finds the chains of what its arguments name, and prints how many events loop and how many starts clash.
+//!
+//! A word is a graph, as `ladder`, or the file of a specification. After the word `seconds` it prints times, too: of a graph that
+//! of making it and finding its chains, and of a specification that of reading it and that of finding its chains.
 #![tactic(auto)]
 
+mod outcome;
+mod reading;
 mod shape;
+mod specification;
 
-use event_graph::{Chains, EventGraph};
-use rsml_base::NoMemory;
+use outcome::outcome_of;
 use shape::Shape;
-use std::alloc::Global;
-use std::rt::Clock;
+use specification::show_text;
+use std::rt::{Clock, Files};
 use std::time::Instant;
-use std::{env, io};
+use std::{env, fs, io};
 
-/// How many events loop, and how many starts clash.
-#[derive(Clone, Copy)]
-struct Outcome {
-    loops: usize,
-    clashes: usize,
-}
-
-/// Makes a graph and finds its chains.
-fn outcome_of(alloc: Global, shape: Shape) -> Result<Outcome, NoMemory> {
-    let mut graph = EventGraph::new(alloc, 1024)?;
-    shape.draw(&mut graph);
-    let chains = Chains::build(alloc, graph)?;
-    Ok(Outcome {
-        loops: chains.loops().len(),
-        clashes: chains.clashes().len(),
-    })
-}
-
-/// Finds the chains of the graph that a word names, and prints its line.
-fn show<R: Clock + Print + AllocGlobal>(rt: &R, word: &str, timed: bool) -> io::Result<()> {
-    let Some(shape) = Shape::from_word(word) else {
-        return println!(rt; "{word} is no graph");
-    };
+/// Finds the chains of a graph, and prints its line.
+fn show_graph<R: Clock + Print + AllocGlobal>(
+    rt: &R,
+    word: &str,
+    shape: Shape,
+    timed: bool,
+) -> io::Result<()> {
     let start = Instant::now(rt)?;
     let Ok(outcome) = outcome_of(rt.alloc(), shape) else {
         return println!(rt; "{word} out of memory");
     };
     let micros = start.elapsed(rt)?.as_micros();
-    print!(rt;
-        "{word} loops {} clashes {}",
-        outcome.loops, outcome.clashes
-    )?;
+    outcome.print(rt, word)?;
     if timed {
         print!(rt; " microseconds {micros}")?;
     }
     println!(rt)
+}
+
+/// Finds the chains of what a word names, and prints its line.
+fn show<R: Clock + Print + Files + AllocGlobal>(rt: &R, word: &str, timed: bool) -> io::Result<()> {
+    match Shape::from_word(word) {
+        Some(shape) => show_graph(rt, word, shape, timed),
+        None => {
+            let text = fs::read(rt, word)?;
+            show_text(rt, word, text.as_slice(), timed)
+        }
+    }
 }
 
 fn main(rt: HostRuntime) -> io::Result<()> {
