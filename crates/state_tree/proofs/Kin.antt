@@ -1,23 +1,23 @@
 -- Components and the numbers of their children.
-use Rattle.std.proofs.Common.{◌≡◌, ℕ, zero, suc, ◌+◌, ◌<◌, ◌≤◌, List, [], ◌∷◌, ◌++◌, map, length, take, get_or, Option, Some, None, inl, inr, ⊎_elim, refl, sym, ap, ◌∙◌, subst, slice_get, slice_index_or, unwrap_or, arith, append-nil}
+use Rattle.std.proofs.Common.{◌≡◌, ℕ, zero, suc, ◌+◌, ◌<◌, ◌≤◌, List, [], ◌∷◌, ◌++◌, map, length, take, get_or, Option, Some, None, ⊎_elim, refl, sym, ap, ◌∙◌, subst, slice_get, slice_index_or, unwrap_or, arith, append-nil}
 use Rattle.std.specs.List.{cons_option, AllZip}
 use Rattle.std.specs.Option.{option_map, option_and_then}
 use Rattle.std.proofs.lemmas.Option.{same_Some}
-use Rattle.std.proofs.lemmas.List.{length-map, take_more, take_all, map_push}
+use Rattle.std.proofs.lemmas.List.{length-map, take_more, take_all}
 use Rattle.rsml_syntax.specs.declared.syntax.Spec.{Spec}
 use Rattle.rsml_syntax.specs.declared.syntax.StateDecl.{StateDecl}
 use Rattle.rsml_syntax.specs.declared.syntax.Body.{Body, Basic, One', All'}
 use Rattle.rsml_syntax.specs.text.Names.{Name, place_of}
 use Rattle.rsml_syntax.specs.grammar.Parts.{children_of, default_of}
 use Rattle.rsml_syntax.specs.limits.Checked.{IsChecked}
-use Rattle.rsml_meaning.specs.Words.{Path, Each, IsOne, at, child_path}
+use Rattle.rsml_meaning.specs.Words.{Path, at, child_path}
 use Rattle.rsml_meaning.specs.Instances.{State, Component, component_of, row_names, states}
 use Rattle.state_tree.specs.nodes.Numbers.{paths, components_of, component_at}
 use Rattle.state_tree.proofs.Numbering.{components_append}
-use Rattle.state_tree.specs.Tables.{Family, IsFamily, IsFamilyOf, AreRising, AreFamilies, HasChildNamed, IsChildNamed}
-use Rattle.state_tree.proofs.Lists.{get_map, place_of_one, beside, as_long, zip_push}
+use Rattle.state_tree.specs.Tables.{Family, IsFamily, IsFamilyOf, AreRising, AreFamilies, IsChildNamed}
+use Rattle.state_tree.proofs.Lists.{get_map, beside, as_long, zip_push}
 use Rattle.state_tree.proofs.Bodies.{body_component}
-use Rattle.state_tree.proofs.Goods.{good_at, IsGood, names_of_row}
+use Rattle.state_tree.proofs.Goods.{good_at, names_of_row}
 use Rattle.state_tree.proofs.Spread.{get_parts}
 
 abbrev pub names : List StateDecl → List Name
@@ -51,21 +51,10 @@ pub record IsOneState (s : Spec) (node : ℕ) (body : Body) (first : Name) (c : 
   pub default : c.default ≡ first
   pub children : c.children ≡ names (children_of body)
   pub few : length (children_of body) ≤ 64
-  pub there : Each (HasChildNamed (paths (states s)) node) (names (children_of body))
 
 pub one_state : (s : Spec) (node : ℕ) (body : Body) (first : Name) → IsChecked s → HasBody (states s) node body → default_of body ≡ Some first → (c : Component) × IsOneState s node body first c
 one_state s node body first h b d = by_state (slice_get (states s) node) refl
   where
-    one_there : (x : State) → slice_get (paths (states s)) node ≡ Some x.path → {c : Component} → IsGood (states s) x.path c → (n : Name) → IsOne n c.children → HasChildNamed (paths (states s)) node n
-    one_there x p g n m =
-        let y = g.there n m in
-        let k = place_of_one (states s) y.0 y.1 in
-        (x.path, k.0, p, get_map (λ (z : State). z.path) (states s) k.0 y.0 k.1 ∙ ap (λ q. Some q) y.2)
-
-    all_there : (ns : List Name) → ((n : Name) → IsOne n ns → HasChildNamed (paths (states s)) node n) → Each (HasChildNamed (paths (states s)) node) ns
-    all_there [] f = tt
-    all_there (n ∷ ns) f = (f n (inl refl), all_there ns (λ y m. f y (inr m)))
-
     by_state : (o : Option State) → slice_get (states s) node ≡ o → (c : Component) × IsOneState s node body first c
     by_state None e = absurd (no_body (b ∙ ap (option_map (λ (y : State). y.body)) e))
       where
@@ -83,7 +72,6 @@ one_state s node body first h b d = by_state (slice_get (states s) node) refl
             default = r.2;
             children = r.3;
             few = subst (λ n. n ≤ 64) (ap length r.3 ∙ length-map (children_of body) (λ (c : StateDecl). c.name)) g.few;
-            there = subst (λ ns. Each (HasChildNamed (paths (states s)) node) ns) r.3 (all_there r.0.children (λ n m. one_there x p g n m));
           },
         )
 
@@ -182,19 +170,6 @@ so_far_more s xs n fs gs o l h f e = subst (λ zs. AreSoFar s xs (n + 1) zs) (sy
         no_get [] n l g = omega (arith, l)
         no_get (x ∷ xs) zero l g = cc
         no_get (x ∷ xs) (suc n) l g = no_get xs n (omega (arith, l)) g
-
--- children by their names
-
-pub each_at : {A : Type 0} (P : Name → Type 0) (f : A → Name) (cs : List A) (i : ℕ) (c : A) → i < length cs → c ≡ get_or cs i c → Each P (map f cs) → P (f c)
-each_at P f [] i c l e h = absurd (omega (arith, l))
-each_at P f (d ∷ cs) zero c l e h = subst (λ x. P (f x)) (sym e) h.0
-each_at P f (d ∷ cs) (suc i) c l e h = each_at P f cs i c (omega (arith, l)) e h.1
-
-pub named_more : (R : Name → ℕ → Type 0) (cs : List StateDecl) (i : ℕ) (c : StateDecl) (ns ms : List ℕ) (n : ℕ) → i < length cs → c ≡ get_or cs i c → AllZip R (names (take i cs)) ns → R c.name n → ms ≡ ns ++ n ∷ [] → AllZip R (names (take (i + 1) cs)) ms
-named_more R cs i c ns ms n l e h k q =
-    subst (λ zs. AllZip R (names (take (i + 1) cs)) zs) (sym q)
-    (subst (λ zs. AllZip R zs (ns ++ n ∷ [])) (sym (ap names (take_more cs i c l ∙ ap (λ d. take i cs ++ d ∷ []) (sym e)) ∙ map_push (λ (d : StateDecl). d.name) (take i cs) c))
-    (zip_push R (names (take i cs)) ns c.name n h k))
 
 pub index_there : (es : List ℕ) (i : ℕ) → i < length es → slice_get es i ≡ Some (slice_index_or es i 0)
 index_there [] i l = absurd (omega (arith, l))

@@ -9,6 +9,7 @@ pub mod Kin
 pub mod Lists
 pub mod NodeFitting
 pub mod Numbering
+pub mod Rows
 pub mod Sized
 pub mod Spans
 pub mod Spread

@@ -1,20 +1,22 @@
--- The end of a state, and the search for a child in it.
-use Rattle.std.proofs.Common.{◌≡◌, ℕ, zero, suc, ◌-◌, nat_eq, IsTrue, ◌+◌, ◌<◌, ◌≤◌, Bool, true, false, ◌&&◌, List, [], ◌∷◌, ◌++◌, length, Some, ◌⊎◌, inl, inr, ⊎_elim, sym, ap, ◌∙◌, subst, slice_get, true≢false, arith, nat_le, nat_lt, eq-or-lt_of_le, length-append}
+-- The end of a state.
+use Rattle.std.proofs.Common.{◌≡◌, ℕ, zero, suc, ◌+◌, ◌<◌, ◌≤◌, true, false, ◌&&◌, List, [], ◌∷◌, ◌++◌, length, Some, None, ◌⊎◌, inl, inr, ⊎_elim, sym, ap, ◌∙◌, subst, slice_get, true≢false, arith, nat_le, nat_lt, eq-or-lt_of_le, length-append, append-nil}
+use Rattle.std.specs.Option.{option_and_then}
 use Rattle.std.proofs.lemmas.Bool.{cases_lt}
 use Rattle.std.proofs.lemmas.Bool.Decides.{nat_tests}
 use Rattle.std.proofs.lemmas.Option.{same_Some}
+use Rattle.std.proofs.lemmas.List.{length-map}
 use Rattle.rsml_syntax.specs.declared.syntax.Spec.{Spec}
 use Rattle.rsml_syntax.specs.declared.world.Step.{Step}
-use Rattle.rsml_syntax.specs.text.Names.{Name}
 use Rattle.rsml_syntax.specs.limits.Checked.{IsChecked}
-use Rattle.rsml_meaning.specs.Words.{Path, at, child_path, is_prefix}
+use Rattle.rsml_meaning.specs.Words.{Path, child_path, is_prefix}
 use Rattle.rsml_meaning.specs.Instances.{State, states}
-use Rattle.std.proofs.lemmas.List.{length-map}
-use Rattle.state_tree.specs.nodes.Numbers.{paths}
-use Rattle.state_tree.specs.Tables.{IsEnd, HasChildNamed}
-use Rattle.state_tree.proofs.Lists.{get_within}
-use Rattle.rsml_meaning.proofs.Prefixes.{prefix_self, prefix_append, prefix_rest, longer}
-use Rattle.state_tree.proofs.Spread.{end_is, get_parts}
+use Rattle.state_tree.specs.nodes.Numbers.{IsPlace, paths, path_above, path_around}
+use Rattle.state_tree.specs.Tables.{IsEnd}
+use Rattle.state_tree.proofs.Above.{above_is, above_none}
+use Rattle.state_tree.proofs.Lists.{get_within, within_get, get_map, get_of_map, not_true}
+use Rattle.rsml_meaning.proofs.Prefixes.{prefix_self, prefix_append, prefix_rest, prefix_then, whole_prefix, linear, longer}
+use Rattle.state_tree.proofs.Spread.{end_is, one_place, some_steps, get_parts}
+use Rattle.state_tree.proofs.Walks.{told_none, told_path}
 
 inside_test : (a j e : ℕ) → a ≤ j → j < e → (nat_le a j && nat_lt j e) ≡ true
 inside_test a j e h k = grind (arith, nat_tests)
@@ -74,21 +76,6 @@ end_last s c node p here all =
     let w = get_within (paths (states s)) node p here in
     end_by s c node (length (paths (states s))) p here w (omega arith) all (λ j q b g. let l = get_within (paths (states s)) j q g in absurd (omega (arith, l, b)))
 
--- the same of a list that is that of the states
-abbrev pub FindsEnd : List State → Type 0
-FindsEnd xs = (node end : ℕ) (p q : Path) → slice_get (paths xs) node ≡ Some p → slice_get (paths xs) end ≡ Some q → is_prefix p q ≡ false → node < end → AllIn (paths xs) p node end → IsEnd (paths xs) node end
-
-abbrev pub EndsLast : List State → Type 0
-EndsLast xs = (node : ℕ) (p : Path) → slice_get (paths xs) node ≡ Some p → AllIn (paths xs) p node (length (paths xs)) → IsEnd (paths xs) node (length (paths xs))
-
-pub finds_end : (s : Spec) (xs : List State) → IsChecked s → xs ≡ states s → FindsEnd xs
-finds_end s xs c e = subst FindsEnd (sym e) (end_found s c)
-
-pub ends_last : (s : Spec) (xs : List State) (n m : ℕ) → IsChecked s → xs ≡ states s → n ≡ length xs → n ≤ m → (node : ℕ) (p : Path) → slice_get (paths xs) node ≡ Some p → AllIn (paths xs) p node m → IsEnd (paths xs) node n
-ends_last s xs n m c e f g node p here all =
-    let l : length (paths xs) ≡ n = length-map xs (λ (x : State). x.path) ∙ sym f in
-    subst (λ k. IsEnd (paths xs) node k) l (subst EndsLast (sym e) (end_last s c) node p here (λ j q a b k. all j q a (omega (arith, b, l, g)) k))
-
 -- one more state is in it
 pub one_more_in : (ps : List Path) (p : Path) (node end : ℕ) (r : Path) → slice_get ps end ≡ Some r → is_prefix p r ≡ true → AllIn ps p node end → AllIn ps p node (end + 1)
 one_more_in ps p node end r there also all j q a b g = ⊎_elim
@@ -96,44 +83,134 @@ one_more_in ps p node end r there also all j q a b g = ⊎_elim
     (λ l. let e : end ≡ j = omega (arith, l, b) in subst (λ z. is_prefix p z ≡ true) (same_Some r q (sym there ∙ ap (λ k. slice_get ps k) e ∙ g)) also)
     (cases_lt j end)
 
--- Children.
-
-pub child_between : (ps : List Path) (node end : ℕ) (name : Name) → IsEnd ps node end → (h : HasChildNamed ps node name) → (node < h.1) × (h.1 < end)
-child_between ps node end name e h =
-    let p = h.0 in
-    let q = child_path p (at name 0) in
-    let in_it = is_inside node h.1 end (sym (e.span p h.2 h.1 q h.3) ∙ prefix_append p (at name 0 ∷ [])) in (
-      ⊎_elim (λ k. absurd (let d = ap length (same_Some p q (sym h.2 ∙ ap (λ n. slice_get ps n) k ∙ h.3)) in let l = longer p (at name 0) [] in omega (arith, d, l))) (λ l. l) (eq-or-lt_of_le in_it.0),
-      in_it.1,
-    )
-
--- none of the states between is the child
-abbrev pub NoneIs : List Path → ℕ → ℕ → Path → Type 0
-NoneIs ps node end q = (j : ℕ) → node < j → j < end → slice_get ps j ≡ Some q → ⊥
-
-pub never_none : (ps : List Path) (node end : ℕ) (p : Path) (name : Name) → slice_get ps node ≡ Some p → IsEnd ps node end → HasChildNamed ps node name → NoneIs ps node end (child_path p (at name 0)) → ⊥
-never_none ps node end p name here e h none =
-    let b = child_between ps node end name e h in
-    none h.1 b.0 b.1 (h.3 ∙ ap (λ z. Some (child_path z (at name 0))) (same_Some h.0 p (sym h.2 ∙ here)))
-
--- a path that is one step longer
-pub one_longer : (p q : Path) → length p < length q → (length q ≡ length p + 1) → is_prefix p q ≡ true → (step : Step) × (q ≡ child_path p step)
-one_longer p q l e h = let r = prefix_rest p q h in by_rest r.0 r.1
-  where
-    by_rest : (r : Path) → q ≡ p ++ r → (step : Step) × (q ≡ child_path p step)
-    by_rest [] k = absurd (let d = ap length k in omega (arith, d, e, length-append p []))
-    by_rest (x ∷ []) k = (x, k)
-    by_rest (x ∷ y ∷ r) k = absurd (let d = ap length k in omega (arith, d, e, length-append p (x ∷ y ∷ r)))
-
 pub longer_prefix : (p q : Path) (step : Step) → q ≡ child_path p step → is_prefix p q ≡ true
 longer_prefix p q step e = subst (λ z. is_prefix p z ≡ true) (sym e) (prefix_append p (step ∷ []))
 
-pub one_longer_so : (p q : Path) (b : Bool) → b ≡ is_prefix p q → length p < length q → nat_eq (length q - 1) (length p) ≡ true → (IsTrue b → (step : Step) × (q ≡ child_path p step)) × ((step : Step) × (q ≡ child_path p step) → IsTrue b)
-one_longer_so p q b e l t =
-    let m : length q - 1 ≡ length p = grind (arith, nat_tests) in (
-      λ h. one_longer p q l (omega (arith, l, m)) (sym e ∙ h),
-      λ r. e ∙ longer_prefix p q r.0 r.1,
-    )
+-- what begins a path that is one step longer is that path, or begins the shorter one
+prefix_of_child : (p r q : Path) (x : Step) → q ≡ child_path r x → is_prefix p q ≡ true → (p ≡ q) ⊎ (is_prefix p r ≡ true)
+prefix_of_child p r q x e h = let a = prefix_rest p q h in ⊎_elim
+    (λ b. inr (subst (λ z. is_prefix p z ≡ true) (sym b.1) (prefix_append p b.0)))
+    (λ b. by_rest b.0 b.1)
+    (linear p r a.0 (x ∷ []) (sym a.1 ∙ e))
+  where
+    by_rest : (b : Path) → p ≡ r ++ b → (p ≡ q) ⊎ (is_prefix p r ≡ true)
+    by_rest [] k = inr (subst (λ z. is_prefix z r ≡ true) (sym (k ∙ append-nil r)) (prefix_self r))
+    by_rest (y ∷ b) k = inl (whole_prefix p q h (let d = ap length e in let f = ap length k in omega (arith, d, f, length-append r (x ∷ []), length-append r (y ∷ b))))
+
+-- the path of a state that is there
+path_at : (xs : List State) (node : ℕ) → node < length xs → (p : Path) × (slice_get (paths xs) node ≡ Some p)
+path_at xs node l = let r = within_get xs node l in (r.0.path, get_map (λ (x : State). x.path) xs node r.0 r.1)
+
+-- By the state around.
+
+-- what is in a state comes after it
+around_first : (s : Spec) → IsChecked s → (parent node : ℕ) (r q : Path) (x : Step) → slice_get (paths (states s)) parent ≡ Some r → slice_get (paths (states s)) node ≡ Some q → q ≡ child_path r x → parent < node
+around_first s c parent node r q x there here e =
+    let h = end_is s c parent r there in
+    let l = is_inside parent node h.0 (sym (h.1 node q here) ∙ longer_prefix r q x e) in
+    ⊎_elim
+    (λ k. absurd (let d = ap length (same_Some r q (sym there ∙ ap (λ n. slice_get (paths (states s)) n) k ∙ here) ∙ e) in let m = longer r x [] in omega (arith, d, m)))
+    (λ k. k)
+    (eq-or-lt_of_le l.0)
+
+-- a state is in one that all between the two are in, where the state around it does not come before that one
+pub also_in : (s : Spec) → IsChecked s → (node end parent : ℕ) (p q : Path) → slice_get (paths (states s)) node ≡ Some p → slice_get (paths (states s)) end ≡ Some q → AllIn (paths (states s)) p node end
+    → IsPlace (paths (states s)) (path_above q) (Some parent) → node ≤ parent → is_prefix p q ≡ true
+also_in s c node end parent p q here there all place l =
+    let t = told_path (paths (states s)) (path_above q) parent place in
+    let a = above_is q t.0 t.1 in
+    let before = around_first s c parent end t.0 q a.0 t.2 there a.1 in
+    prefix_then p t.0 q
+    (⊎_elim
+    (λ e. subst (λ z. is_prefix p z ≡ true) (same_Some p t.0 (sym here ∙ ap (λ k. slice_get (paths (states s)) k) e ∙ t.2)) (prefix_self p))
+    (λ m. all parent t.0 m before t.2)
+    (eq-or-lt_of_le l))
+    (longer_prefix t.0 q a.0 a.1)
+
+-- a later state is not in one that comes after the state around it
+pub not_in : (s : Spec) → IsChecked s → (node end parent : ℕ) (p q : Path) → slice_get (paths (states s)) node ≡ Some p → slice_get (paths (states s)) end ≡ Some q → node < end
+    → IsPlace (paths (states s)) (path_above q) (Some parent) → parent < node → is_prefix p q ≡ false
+not_in s c node end parent p q here there l place m = not_true (is_prefix p q) (λ h.
+    let t = told_path (paths (states s)) (path_above q) parent place in
+    let a = above_is q t.0 t.1 in
+    let e = end_is s c node p here in
+    ⊎_elim
+    (λ d. let same = one_place s c node end q (here ∙ ap (λ z. Some z) d) there in omega (arith, same, l))
+    (λ k. let i = is_inside node parent e.0 (sym (e.1 parent t.0 t.2) ∙ k) in let n = i.0 in omega (arith, n, m))
+    (prefix_of_child p t.0 q a.0 a.1 h))
+
+-- no later state is the top
+pub not_top : (s : Spec) → IsChecked s → (node end : ℕ) (p q : Path) → slice_get (paths (states s)) node ≡ Some p → slice_get (paths (states s)) end ≡ Some q → node < end → path_above q ≡ None → is_prefix p q ≡ false
+not_top s c node end p q here there l top = not_true (is_prefix p q) (λ h.
+    let some = some_steps s c node p here in
+    let same = whole_prefix p q h (let k = above_none q top in omega (arith, k, some)) in
+    let place = one_place s c node end q (here ∙ ap (λ z. Some z) same) there in
+    omega (arith, place, l))
+
+-- The end of a state of a list that is that of the states.
+
+-- the path of a state by the number that is told of the state around it
+around_is : (xs : List State) (end : ℕ) (q : Path) → slice_get (paths xs) end ≡ Some q → path_around xs end ≡ path_above q
+around_is xs end q there =
+    let r = get_of_map (λ (x : State). x.path) xs end q there in
+    ap (λ o. option_and_then (λ (x : State). path_above x.path) o) r.1 ∙ ap path_above r.2
+
+-- all between a state and here are in it
+abbrev pub InSoFar : List State → ℕ → ℕ → Type 0
+InSoFar xs node end = (p : Path) → slice_get (paths xs) node ≡ Some p → AllIn (paths xs) p node end
+
+abbrev StaysIn : List State → Type 0
+StaysIn xs = (node end parent : ℕ) → end < length xs → IsPlace (paths xs) (path_around xs end) (Some parent) → node ≤ parent → InSoFar xs node end → InSoFar xs node (end + 1)
+
+pub stays_in : (s : Spec) (xs : List State) → IsChecked s → xs ≡ states s → StaysIn xs
+stays_in s xs c e = subst StaysIn (sym e) (λ node end parent l place m all p here.
+    let q = path_at (states s) end l in
+    one_more_in (paths (states s)) p node end q.0 q.1
+    (also_in s c node end parent p q.0 here q.1 (all p here) (subst (λ o. IsPlace (paths (states s)) o (Some parent)) (around_is (states s) end q.0 q.1) place) m) (all p here))
+
+abbrev EndsHere : List State → Type 0
+EndsHere xs = (node end parent : ℕ) → end < length xs → node < end → IsPlace (paths xs) (path_around xs end) (Some parent) → parent < node → InSoFar xs node end → IsEnd (paths xs) node end
+
+pub ends_here : (s : Spec) (xs : List State) → IsChecked s → xs ≡ states s → EndsHere xs
+ends_here s xs c e = subst EndsHere (sym e) (λ node end parent l after place m all.
+    let p = path_at (states s) node (omega (arith, l, after)) in
+    let q = path_at (states s) end l in
+    end_found s c node end p.0 q.0 p.1 q.1
+    (not_in s c node end parent p.0 q.0 p.1 q.1 after (subst (λ o. IsPlace (paths (states s)) o (Some parent)) (around_is (states s) end q.0 q.1) place) m) after (all p.0 p.1))
+
+abbrev EndsAtTop : List State → Type 0
+EndsAtTop xs = (node end : ℕ) → end < length xs → node < end → IsPlace (paths xs) (path_around xs end) None → InSoFar xs node end → IsEnd (paths xs) node end
+
+pub ends_at_top : (s : Spec) (xs : List State) → IsChecked s → xs ≡ states s → EndsAtTop xs
+ends_at_top s xs c e = subst EndsAtTop (sym e) (λ node end l after place all.
+    let p = path_at (states s) node (omega (arith, l, after)) in
+    let q = path_at (states s) end l in
+    end_found s c node end p.0 q.0 p.1 q.1
+    (not_top s c node end p.0 q.0 p.1 q.1 after (sym (around_is (states s) end q.0 q.1) ∙ told_none (paths (states s)) (path_around (states s) end) place)) after (all p.0 p.1))
+
+abbrev EndsLast : List State → Type 0
+EndsLast xs = (node : ℕ) → node < length xs → InSoFar xs node (length xs) → IsEnd (paths xs) node (length xs)
+
+pub ends_last : (s : Spec) (xs : List State) → IsChecked s → xs ≡ states s → EndsLast xs
+ends_last s xs c e = subst EndsLast (sym e) (λ node l all.
+    let p = path_at (states s) node l in
+    let n : length (paths (states s)) ≡ length (states s) = length-map (states s) (λ (x : State). x.path) in
+    subst (λ k. IsEnd (paths (states s)) node k) n (end_last s c node p.0 p.1 (subst (λ k. AllIn (paths (states s)) p.0 node k) (sym n) (all p.0 p.1))))
+
+-- an end is the only one
+pub one_end : (ps : List Path) (i e f : ℕ) (p : Path) → slice_get ps i ≡ Some p → IsEnd ps i e → i < f → f ≤ length ps → ((j : ℕ) (q : Path) → slice_get ps j ≡ Some q → is_prefix p q ≡ (nat_le i j && nat_lt j f)) → e ≡ f
+one_end ps i e f p here ends l m span = ⊎_elim
+    (λ k. let q = within_get ps e (omega (arith, k, m)) in
+    absurd (true≢false (sym (inside_test i e f (let a = after in omega (arith, a)) k) ∙ sym (span e q.0 q.1) ∙ ends.span p here e q.0 q.1 ∙ past_test i e e (omega arith))))
+    (λ k. ⊎_elim
+    (λ d. sym d)
+    (λ n. let w = ends.within in let q = within_get ps f (omega (arith, n, w)) in
+    absurd (true≢false (sym (inside_test i f e (omega (arith, l)) n) ∙ sym (ends.span p here f q.0 q.1) ∙ span f q.0 q.1 ∙ past_test i f f (omega arith))))
+    (eq-or-lt_of_le k))
+    (cases_lt e f)
+  where
+    after : i < e
+    after = (is_inside i i e (sym (ends.span p here i p here) ∙ prefix_self p)).1
 
 pub ends_push : (ps : List Path) (es : List ℕ) (n e : ℕ) → length es ≡ n → ((node end : ℕ) → slice_get es node ≡ Some end → IsEnd ps node end) → IsEnd ps n e → (node end : ℕ) → slice_get (es ++ e ∷ []) node ≡ Some end → IsEnd ps node end
 ends_push ps es n e l all this node end g = ⊎_elim (λ k. all node end (front es node k.0 g)) (λ k. last k.0 k.1 k.2) (get_parts es (e ∷ []) node end g)

@@ -111,8 +111,8 @@ mutual
 
 -- Stretches.
 
--- The states in the one of a path stand together, and it is the first of them.
-pub record Stretch (p : Path) (xs : List State) : Type 0 where
+-- The states in the one of a path stand together, it is the first of them, and its body makes the others.
+pub record Stretch (g : Globals) (p : Path) (xs : List State) : Type 0 where
   pub before : List State
   pub first : State
   pub inner : List State
@@ -122,9 +122,10 @@ pub record Stretch (p : Path) (xs : List State) : Type 0 where
   pub outside : Each (Outside p) before
   pub strictly : Each (Strictly p) inner
   pub past : Each (Outside p) after
+  pub whole : inner ≡ made.inside g first.body p
 
-widen : (p : Path) (us ys vs : List State) → Each (Outside p) us → Each (Outside p) vs → Stretch p ys → Stretch p (us ++ (ys ++ vs))
-widen p us ys vs a b h = record {
+widen : (g : Globals) (p : Path) (us ys vs : List State) → Each (Outside p) us → Each (Outside p) vs → Stretch g p ys → Stretch g p (us ++ (ys ++ vs))
+widen g p us ys vs a b h = record {
   before = us ++ h.before;
   first = h.first;
   inner = h.inner;
@@ -136,11 +137,12 @@ widen p us ys vs a b h = record {
   outside = each_append (Outside p) us h.before a h.outside;
   strictly = h.strictly;
   past = each_append (Outside p) h.after vs h.past b;
+  whole = h.whole;
 }
 
 -- each state has its stretch
-abbrev Stretches : List State → Type 0
-Stretches xs = (x : State) → IsOne x xs → Stretch x.path xs
+abbrev Stretches : Globals → List State → Type 0
+Stretches g xs = (x : State) → IsOne x xs → Stretch g x.path xs
 
 -- what is in one child is outside what is in another
 apart : (p : Path) (a b : Step) (x y : State) → (a ≡ b → ⊥) → InChild p a x → InChild p b y → Outside x.path y
@@ -152,13 +154,13 @@ one_of_append x (z ∷ xs) ys (inl e) = inl (inl e)
 one_of_append x (z ∷ xs) ys (inr m) = ⊎_elim (λ l. inl (inr l)) (λ r. inr r) (one_of_append x xs ys m)
 
 -- a state with what is inside it
-subtree_stretches : (x : State) (xs : List State) → Each (Strictly x.path) xs → Stretches xs → Stretches (x ∷ xs)
-subtree_stretches x xs below inner y (inl e) = subst (λ z. Stretch z.path (x ∷ xs)) (sym e)
-    record { before = []; first = x; inner = xs; after = []; is = ap (λ zs. x ∷ zs) (sym (append-nil xs)); here = refl; outside = tt; strictly = below; past = tt }
-subtree_stretches x xs below inner y (inr m) =
+subtree_stretches : (g : Globals) (x : State) (xs : List State) → Each (Strictly x.path) xs → xs ≡ made.inside g x.body x.path → Stretches g xs → Stretches g (x ∷ xs)
+subtree_stretches g x xs below makes inner y (inl e) = subst (λ z. Stretch g z.path (x ∷ xs)) (sym e)
+    record { before = []; first = x; inner = xs; after = []; is = ap (λ zs. x ∷ zs) (sym (append-nil xs)); here = refl; outside = tt; strictly = below; past = tt; whole = makes }
+subtree_stretches g x xs below makes inner y (inr m) =
     let b = each_one (Strictly x.path) xs y below m in
     let outside : Outside y.path x = not_true (is_prefix y.path x.path) (λ h. let l = prefix_length y.path x.path h in let k = longer x.path b.0 b.1 in let e = ap length b.2 in omega (arith, l, k, e)) in
-    subst (λ zs. Stretch y.path (x ∷ zs)) (append-nil xs) (widen y.path (x ∷ []) xs [] (outside, tt) tt (inner y m))
+    subst (λ zs. Stretch g y.path (x ∷ zs)) (append-nil xs) (widen g y.path (x ∷ []) xs [] (outside, tt) tt (inner y m))
 
 -- no two are the same
 abbrev Distinct : List ℕ → Type 0
@@ -182,11 +184,11 @@ distinct_indices g None = (tt, tt)
 distinct_indices g (Some a) = distinct_up_to (many g (Some a))
 
 -- the instances of a child
-array_stretches : (f : ℕ → List State) (p : Path) (name : Name) (is : List ℕ) → Distinct is → ((i : ℕ) → Each (InChild p (at name i)) (f i)) → ((i : ℕ) → Stretches (f i)) → Stretches (flat_map f is)
-array_stretches f p name [] d own inner x m = absurd m
-array_stretches f p name (i ∷ is) d own inner x m = ⊎_elim
-    (λ k. widen x.path [] (f i) (flat_map f is) tt (others x (each_one (InChild p (at name i)) (f i) x (own i) k) is d.0) (inner i x k))
-    (λ k. subst (λ zs. Stretch x.path (f i ++ zs)) (append-nil (flat_map f is)) (widen x.path (f i) (flat_map f is) [] (back x k) tt (array_stretches f p name is d.1 own inner x k)))
+array_stretches : (g : Globals) (f : ℕ → List State) (p : Path) (name : Name) (is : List ℕ) → Distinct is → ((i : ℕ) → Each (InChild p (at name i)) (f i)) → ((i : ℕ) → Stretches g (f i)) → Stretches g (flat_map f is)
+array_stretches g f p name [] d own inner x m = absurd m
+array_stretches g f p name (i ∷ is) d own inner x m = ⊎_elim
+    (λ k. widen g x.path [] (f i) (flat_map f is) tt (others x (each_one (InChild p (at name i)) (f i) x (own i) k) is d.0) (inner i x k))
+    (λ k. subst (λ zs. Stretch g x.path (f i ++ zs)) (append-nil (flat_map f is)) (widen g x.path (f i) (flat_map f is) [] (back x k) tt (array_stretches g f p name is d.1 own inner x k)))
     (one_of_append x (f i) (flat_map f is) m)
   where
     others : (x : State) → InChild p (at name i) x → (is : List ℕ) → Each (λ j. i ≡ j → ⊥) is → Each (Outside x.path) (flat_map f is)
@@ -203,41 +205,41 @@ array_stretches f p name (i ∷ is) d own inner x m = ⊎_elim
         each_more (InChild p (at name i)) (Outside x.path) (λ y h. apart p (at name r.0) (at name i) x y (λ e. r.1 (sym (ap (λ (z : Step). z.index) e))) r.2 h) (f i) (own i)
 
 -- children of one name, and those of other names
-two_stretches : (p : Path) (name : Name) (xs ys : List State) (earlier : List Name) → Each (λ x. (i : ℕ) × InChild p (at name i) x) xs → Each (Later p (earlier ++ (name ∷ []))) ys → Stretches xs → Stretches ys → Stretches (xs ++ ys)
-two_stretches p name xs ys earlier own later a b x m = ⊎_elim
+two_stretches : (g : Globals) (p : Path) (name : Name) (xs ys : List State) (earlier : List Name) → Each (λ x. (i : ℕ) × InChild p (at name i) x) xs → Each (Later p (earlier ++ (name ∷ []))) ys → Stretches g xs → Stretches g ys → Stretches g (xs ++ ys)
+two_stretches g p name xs ys earlier own later a b x m = ⊎_elim
     (λ k. let h = each_one (λ x. (i : ℕ) × InChild p (at name i) x) xs x own k in
-    widen x.path [] xs ys tt (each_more (Later p (earlier ++ (name ∷ []))) (Outside x.path) (λ y l. apart p (at name h.0) (at l.0 l.1) x y (λ e. not_last l.0 name earlier l.3 (sym (ap (λ (z : Step). z.name) e))) h.1 l.2) ys later) (a x k))
+    widen g x.path [] xs ys tt (each_more (Later p (earlier ++ (name ∷ []))) (Outside x.path) (λ y l. apart p (at name h.0) (at l.0 l.1) x y (λ e. not_last l.0 name earlier l.3 (sym (ap (λ (z : Step). z.name) e))) h.1 l.2) ys later) (a x k))
     (λ k. let l = each_one (Later p (earlier ++ (name ∷ []))) ys x later k in
-    subst (λ zs. Stretch x.path (xs ++ zs)) (append-nil ys)
-    (widen x.path xs ys [] (each_more (λ x. (i : ℕ) × InChild p (at name i) x) (Outside x.path) (λ y h. apart p (at l.0 l.1) (at name h.0) x y (λ e. not_last l.0 name earlier l.3 (ap (λ (z : Step). z.name) e)) l.2 h.1) xs own) tt (b x k)))
+    subst (λ zs. Stretch g x.path (xs ++ zs)) (append-nil ys)
+    (widen g x.path xs ys [] (each_more (λ x. (i : ℕ) × InChild p (at name i) x) (Outside x.path) (λ y h. apart p (at l.0 l.1) (at name h.0) x y (λ e. not_last l.0 name earlier l.3 (ap (λ (z : Step). z.name) e)) l.2 h.1) xs own) tt (b x k)))
     (one_of_append x xs ys m)
 
 mutual
-  body_stretches : (s : Spec) (body : Body) (array : Option Amount) (path : Path) → Each (Clean s) (part.inside array body) → Stretches (made.inside (globals_of s) body path)
+  body_stretches : (s : Spec) (body : Body) (array : Option Amount) (path : Path) → Each (Clean s) (part.inside array body) → Stretches (globals_of s) (made.inside (globals_of s) body path)
   body_stretches s Basic array path clean = λ x m. absurd m
   body_stretches s (One' first shape row bs ts) array path clean = row_stretches s _ row true array [] path clean
   body_stretches s (All' shape row) array path clean = row_stretches s _ row false array [] path clean
 
   row_stretches : (s : Spec) (n : _) (row : Row_of-StateDecl n) (in_one : Bool) (array : Option Amount) (earlier : List Name) (path : Path) → Each (Clean s) (row_parts in_one array earlier row)
-      → Stretches (row_inside (globals_of s) row path)
+      → Stretches (globals_of s) (row_inside (globals_of s) row path)
   row_stretches s n end_of-StateDecl in_one array earlier path clean = λ x m. absurd m
   row_stretches s n (more_of-StateDecl name size body others) in_one array earlier path clean =
       let g = globals_of s in
       let r = clean_row s in_one array earlier name size body others clean.0 clean.1 in
       let below = λ (i : ℕ). body_below s body (nearer size array) (child_path path (at name i)) r.inner in
-      two_stretches path name (flat_map (made_by g name body path) (indices g size)) (row_inside g others path) earlier
+      two_stretches g path name (flat_map (made_by g name body path) (indices g size)) (row_inside g others path) earlier
       (each_flat_map (λ x. (i : ℕ) × InChild path (at name i) x) (made_by g name body path) (indices g size)
       (λ i m. each_more (InChild path (at name i)) (λ x. (i : ℕ) × InChild path (at name i) x) (λ x h. (i, h)) (made_by g name body path i) (in_instance g name body path i (below i))))
       (row_later s _ others in_one array (earlier ++ (name ∷ [])) path r.after)
-      (array_stretches (made_by g name body path) path name (indices g size) (distinct_indices g size) (λ i. in_instance g name body path i (below i))
-      (λ i. subtree_stretches (new_state body (child_path path (at name i))) (made.inside g body (child_path path (at name i))) (below i) (body_stretches s body (nearer size array) (child_path path (at name i)) r.inner)))
+      (array_stretches g (made_by g name body path) path name (indices g size) (distinct_indices g size) (λ i. in_instance g name body path i (below i))
+      (λ i. subtree_stretches g (new_state body (child_path path (at name i))) (made.inside g body (child_path path (at name i))) (below i) refl (body_stretches s body (nearer size array) (child_path path (at name i)) r.inner)))
       (row_stretches s _ others in_one array (earlier ++ (name ∷ [])) path r.after)
 
-pub all_stretches : (s : Spec) → IsChecked s → Stretches (states s)
+pub all_stretches : (s : Spec) → IsChecked s → Stretches (globals_of s) (states s)
 all_stretches s h =
     let c = clean_states s h.keeps.rules in
     let path = at s.top 0 ∷ [] in
-    subtree_stretches (new_state s.body path) (made.inside (globals_of s) s.body path) (body_below s s.body None path c.inner) (body_stretches s s.body None path c.inner)
+    subtree_stretches (globals_of s) (new_state s.body path) (made.inside (globals_of s) s.body path) (body_below s s.body None path c.inner) refl (body_stretches s s.body None path c.inner)
 
 -- each path is that of the top, or goes on from it
 pub some_steps : (s : Spec) → IsChecked s → (node : ℕ) (p : Path) → slice_get (paths (states s)) node ≡ Some p → 1 ≤ length p
@@ -280,7 +282,7 @@ strictly_prefix : (p : Path) (x : State) → Strictly p x → is_prefix p x.path
 strictly_prefix p x h = subst (λ z. is_prefix p z ≡ true) (sym h.2) (prefix_append p (h.0 ∷ h.1))
 
 -- which states are in the one of a path
-stretch_span : (p : Path) (xs : List State) (h : Stretch p xs) (j : ℕ) (x : State) → slice_get xs j ≡ Some x
+pub stretch_span : {g : Globals} (p : Path) (xs : List State) (h : Stretch g p xs) (j : ℕ) (x : State) → slice_get xs j ≡ Some x
     → is_prefix p x.path ≡ (nat_le (length h.before) j && nat_lt j (length h.before + suc (length h.inner)))
 stretch_span p xs h j x e = ⊎_elim
     (λ l. each_one (Outside p) h.before x h.outside l.1 ∙ sym (before_test (length h.before) j (length h.before + suc (length h.inner)) l.0))
@@ -298,7 +300,7 @@ stretch_span p xs h j x e = ⊎_elim
         (get_parts h.inner h.after k x g)
 
 -- where the state of the path stands
-stretch_first : (p : Path) (xs : List State) (h : Stretch p xs) (j : ℕ) (x : State) → slice_get xs j ≡ Some x → x.path ≡ p → j ≡ length h.before
+stretch_first : {g : Globals} (p : Path) (xs : List State) (h : Stretch g p xs) (j : ℕ) (x : State) → slice_get xs j ≡ Some x → x.path ≡ p → j ≡ length h.before
 stretch_first p xs h j x e here = ⊎_elim
     (λ l. absurd (outside_not p x (each_one (Outside p) h.before x h.outside l.1) here))
     (λ r. by_rest r.0 r.1 r.2)
@@ -311,10 +313,10 @@ stretch_first p xs h j x e here = ⊎_elim
         (λ r. outside_not p x (each_one (Outside p) h.after x h.past (one_at h.after r.0 x r.2)) here)
         (get_parts h.inner h.after k x g))
 
-pub stretch_at : (s : Spec) → IsChecked s → (j : ℕ) (p : Path) → slice_get (paths (states s)) j ≡ Some p → (h : Stretch p (states s)) × (j ≡ length h.before)
+pub stretch_at : (s : Spec) → IsChecked s → (j : ℕ) (p : Path) → slice_get (paths (states s)) j ≡ Some p → (h : Stretch (globals_of s) p (states s)) × (j ≡ length h.before)
 stretch_at s c j p e =
     let r = get_of_map (λ (x : State). x.path) (states s) j p e in
-    let h = subst (λ q. Stretch q (states s)) r.2 (all_stretches s c r.0 (one_at (states s) j r.0 r.1)) in
+    let h = subst (λ q. Stretch (globals_of s) q (states s)) r.2 (all_stretches s c r.0 (one_at (states s) j r.0 r.1)) in
     (h, stretch_first p (states s) h j r.0 r.1 r.2)
 
 -- no two states have one path

@@ -1,5 +1,5 @@
 -- What the tree stores about states and components, and what is right of it.
-use Rattle.std.specs.Prelude.{◌≡◌, ℕ, ◌<◌, ◌≤◌, ◌&&◌, ⊤, List, length, Option, Some, None, slice_get, nat_le, nat_lt}
+use Rattle.std.specs.Prelude.{◌≡◌, ℕ, zero, suc, ◌<◌, ◌≤◌, ◌&&◌, ⊤, List, [], ◌∷◌, length, Option, Some, None, slice_get, slice_index_or, nat_le, nat_lt}
 use Rattle.std.specs.List.{AllZip}
 use Rattle.rsml_syntax.specs.declared.syntax.Spec.{Spec}
 use Rattle.rsml_syntax.specs.text.Names.{Name}
@@ -29,6 +29,11 @@ IsChildNamed ps node name number =
 abbrev pub HasChildNamed : List Path → ℕ → Name → Type 0
 HasChildNamed ps node name =
     (p : Path) × (number : ℕ) × (slice_get ps node ≡ Some p) × (slice_get ps number ≡ Some (child_path p (at name 0)))
+
+-- so many numbers from a first one on, each the end that stands for the one before
+abbrev pub in_row : List ℕ → ℕ → ℕ → List ℕ
+in_row ends first zero = []
+in_row ends first (suc count) = first ∷ in_row ends (slice_index_or ends first 0) count
 
 -- A component: its number as a state, the place of its default child, and the numbers of its children.
 pub record Family : Type 0 where

@@ -5,20 +5,21 @@ ghost use Rattle.state_tree.specs.nodes.Numbers.{paths};
 ghost use Rattle.state_tree.specs.Tables.{AreEnds, IsEnd};
 
 use crate::nodes::Nodes;
-use crate::paths::{is_prefix, path_of};
 use rsml_syntax::{NoMemory, Spec};
 use std::alloc::Global;
 
-/// The number past the last state that is in a state.
+/// The number past the last state that is in a state: the first later one whose parent comes before it.
 fn end_of(spec: &Spec, nodes: &Nodes<'_>, node: u32) -> u32
     requires checked { IsChecked spec.now }
     requires nodes { nodes.now ≡ states spec.now }
     requires node { node < length nodes.now }
     ensures { IsEnd (paths nodes.now) node result }
 {
-    let path = path_of(nodes, node);
     for end in node + 1..nodes.len() {
-        if !is_prefix(path, path_of(nodes, end)) {
+        let Some(parent) = nodes.parent(end) else {
+            return end;
+        };
+        if parent < node {
             return end;
         }
     }

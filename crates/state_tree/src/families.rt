@@ -5,7 +5,7 @@ ghost use Rattle.rsml_meaning.specs.Instances.{states};
 ghost use Rattle.state_tree.specs.nodes.Numbers.{paths, component_at};
 ghost use Rattle.state_tree.specs.Tables.{AreEnds, IsFamilyOf, AreFamilies};
 
-use crate::family::{Family, child_place, children_named};
+use crate::family::{Family, child_place, in_row};
 use crate::nodes::Nodes;
 use rsml_names::{children_of, default_of};
 use rsml_syntax::{NoMemory, Spec};
@@ -33,7 +33,7 @@ fn family(
         Some(first) => {
             let children = children_of(body);
             let default = child_place(children, first);
-            let children = children_named(alloc, nodes, node, ends[node as usize], children)?;
+            let children = in_row(alloc, ends, node + 1, children.len())?;
             Ok(Some(Family {
                 node,
                 default,

@@ -1,13 +1,8 @@
-ghost use Rattle.std.specs.Prelude.{◌≡◌, ◌≤◌, ◌↔◌, IfOk, IsTrue, length, map, unwrap_or};
-ghost use Rattle.std.specs.List.{AllZip};
+ghost use Rattle.std.specs.Prelude.{◌≡◌, ◌<◌, ◌≤◌, IfOk, length, map, unwrap_or};
 ghost use Rattle.rsml_syntax.specs.text.Names.{place_of};
-ghost use Rattle.rsml_syntax.specs.declared.world.Step as spec;
-ghost use Rattle.rsml_meaning.specs.Words.{Each, at, child_path};
-ghost use Rattle.state_tree.specs.nodes.Numbers.{paths};
-ghost use Rattle.state_tree.specs.Tables.{IsEnd, HasChildNamed, IsChildNamed};
+ghost use Rattle.rsml_meaning.specs.Words.{Each};
+ghost use Rattle.state_tree.specs.Tables as spec;
 
-use crate::nodes::{Nodes, StepRef};
-use crate::paths::{is_plain, is_prefix, path_of};
 use rsml_syntax::{NoMemory, StateDecl, Text};
 use std::alloc::Global;
 use std::marker::Model;
@@ -42,54 +37,16 @@ pub fn child_place(children: &[StateDecl], name: &Text) -> u8
     0
 }
 
-/// Whether a path is one step longer than another that begins it.
-fn is_one_longer(path: &[StepRef<'_>], parent: &[StepRef<'_>]) -> bool
-    ensures { IsTrue result ↔ ((step : spec.Step) × (path.now ≡ child_path parent.now step)) }
-{
-    parent.len() < path.len() && path.len() - 1 == parent.len() && is_prefix(parent, path)
-}
-
-/// Whether a path goes one step further than another, to a plain state of this name.
-fn is_child(path: &[StepRef<'_>], parent: &[StepRef<'_>], name: &Text) -> bool
-    ensures { IsTrue result ↔ (path.now ≡ child_path parent.now (at name.now 0)) }
-{
-    match path.last() {
-        Some(step) => is_plain(step, name) && is_one_longer(path, parent),
-        None => false,
-    }
-}
-
-/// The child of this name of a state, which has one.
-fn child(nodes: &Nodes<'_>, node: u32, end: u32, name: &Text) -> u32
-    requires end { IsEnd (paths nodes.now) node end }
-    requires there { HasChildNamed (paths nodes.now) node name.now }
-    ensures { IsChildNamed (paths nodes.now) node name.now result }
-{
-    let path = path_of(nodes, node);
-    for other in node + 1..end {
-        if is_child(path_of(nodes, other), path, name) {
-            return other;
-        }
-    }
-    node
-}
-
-/// The children of a state, by their names.
-pub fn children_named(
-    alloc: Global,
-    nodes: &Nodes<'_>,
-    node: u32,
-    end: u32,
-    children: &[StateDecl],
-) -> Result<Vec<u32>, NoMemory>
-    requires end { IsEnd (paths nodes.now) node end }
-    requires there { Each (HasChildNamed (paths nodes.now) node) (map (λ c. c.name) children.now) }
-    ensures { IfOk result (λ v. AllZip (IsChildNamed (paths nodes.now) node)
-        (map (λ c. c.name) children.now) v.items) }
+/// The numbers of so many children that stand one behind another, each where the one before it ends.
+pub fn in_row(alloc: Global, ends: &[u32], first: u32, count: usize) -> Result<Vec<u32>, NoMemory>
+    requires { Each (λ place. place < length ends.now) (spec.in_row ends.now first count) }
+    ensures { IfOk result (λ v. v.items ≡ spec.in_row ends.now first count) }
 {
     let mut numbers = Vec::new(alloc);
-    for child_decl in children {
-        numbers.push(child(nodes, node, end, &child_decl.name))?;
+    let mut place = first;
+    for _child in 0..count {
+        numbers.push(place)?;
+        place = ends[place as usize];
     }
     Ok(numbers)
 }
