@@ -36,7 +36,7 @@ module _ (P : ℕ → Type 0) (ts us : List Bool) (same : (k : ℕ) → P k → 
   macro_alike (Some (definition.Macro table)) e = guard_alike (guards.Table table) e.0
   macro_alike (Some (definition.Function cases)) e = refl
 
-  pub function_alike : (cells : List ℤ) (d : Option Definition) → NamedBy P d → function_values cells ts d ≡ function_values cells us d
+  function_alike : (cells : List ℤ) (d : Option Definition) → NamedBy P d → function_values cells ts d ≡ function_values cells us d
   function_alike cells None e = refl
   function_alike cells (Some (definition.Macro table)) e = refl
   function_alike cells (Some (definition.Function cases)) e = values_alike cells cases e

@@ -117,16 +117,6 @@ guards_below ds cells n number gs is all =
     subst (λ xs. All (λ g. All (λ k. k < n) (phrases_of g)) xs) (sym (all is.0 is.1))
     (each_all (λ g. All (IsBelow n) (phrases_of g)) (guards_of is.0) (each_so (λ g names. each_all (IsBelow n) (phrases_of g) names) (guards_of is.0) (definition_names cells n is.0 is.2)))
 
--- the fact holds of each phrase that guards name
-pub named_by : (P : ℕ → Type 0) (ds : List Definition) (number : ℕ) (gs : List GroundGuard)
-    → ((d : Definition) → slice_get ds number ≡ Some d → gs ≡ guards_of d)
-    → All (λ g. All P (phrases_of g)) gs → NamedBy P (slice_get ds number)
-named_by P ds number gs is all = by (slice_get ds number) is
-  where
-    by : (o : Option Definition) → ((d : Definition) → o ≡ Some d → gs ≡ guards_of d) → NamedBy P o
-    by None is = tt
-    by (Some d) is = each_so (λ g named. all_each P (phrases_of g) named) (guards_of d) (all_each (λ g. All P (phrases_of g)) (guards_of d) (subst (λ xs. All (λ g. All P (phrases_of g)) xs) (is d refl) all))
-
 pub below_guard : (n : ℕ) (g : GroundGuard) → GuardBelow n g → All (λ k. k < n) (phrases_of g)
 below_guard n guards.Always b = λ k d within. absurd (omega (arith, within))
 below_guard n (guards.Table table) b = all_map (λ k. k < n) (λ row. row.phrase) table.rows b

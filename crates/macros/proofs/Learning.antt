@@ -104,9 +104,6 @@ all_more {A = A} P xs i here before = subst (λ n. All P (take n xs)) (sym (add-
     of (x ∷ xs) (suc i) here before (suc k) d within =
         of xs i (λ e l. here e (omega (arith, l))) (λ j e l. before (suc j) e (omega (arith, l))) k d (omega (arith, within))
 
-all_so : {A : Type 0} (P Q : A → Type 0) → ((x : A) → P x → Q x) → (xs : List A) → All P xs → All Q xs
-all_so P Q f xs a k d within = f (get_or xs k d) (a k d within)
-
 same_default : {A : Type 0} (xs : List A) (i : ℕ) (d e : A) → i < length xs → get_or xs i d ≡ get_or xs i e
 same_default [] i d e within = absurd (omega (arith, within))
 same_default (x ∷ xs) zero d e within = refl
@@ -115,12 +112,6 @@ same_default (x ∷ xs) (suc i) d e within = same_default xs i d e (omega (arith
 pub numbers_more : (old new : List (Option Bool)) (ks : List ℕ) (i : ℕ) → StillKnown old new → IsKnown new (get_or ks i 0)
     → All (IsKnown old) (take i ks) → All (IsKnown new) (take (i + 1) ks)
 numbers_more old new ks i kept here before = all_more (IsKnown new) ks i (λ d within. subst (IsKnown new) (same_default ks i 0 d within) here) (all_known_on old new (take i ks) kept before)
-
-pub guards_more : (old new : List (Option Bool)) (gs : List GroundGuard) (i : ℕ) (g : GroundGuard) → g ≡ get_or gs i g → StillKnown old new → All (IsKnown new) (phrases_of g)
-    → All (λ x. All (IsKnown old) (phrases_of x)) (take i gs) → All (λ x. All (IsKnown new) (phrases_of x)) (take (i + 1) gs)
-guards_more old new gs i g is kept here before =
-    all_more (λ x. All (IsKnown new) (phrases_of x)) gs i (λ d within. subst (λ x. All (IsKnown new) (phrases_of x)) (is ∙ same_default gs i g d within) here)
-    (all_so (λ x. All (IsKnown old) (phrases_of x)) (λ x. All (IsKnown new) (phrases_of x)) (λ x a. all_known_on old new (phrases_of x) kept a) (take i gs) before)
 
 pub known_more : (old new : List (Option Bool)) (n : ℕ) → StillKnown old new → IsKnown new n → AreKnown old n → AreKnown new (n + 1)
 known_more old new n kept here before k less = elim (same_or_not k n) [

@@ -1,5 +1,6 @@
 pub mod NoState
 pub mod Alike
+pub mod Asking
 pub mod Below
 pub mod Filling
 pub mod Learning

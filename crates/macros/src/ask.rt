@@ -1,18 +1,20 @@
-ghost use Rattle.std.specs.Prelude.{◌≡◌, ◌<◌, ◌≤◌, All, length};
+ghost use Rattle.std.specs.Prelude.{◌≡◌, ◌<◌, ◌≤◌, All, Some, length, slice_get};
+ghost use Rattle.std.specs.List.{list_any, list_all};
+ghost use Rattle.rsml_syntax.specs.rules.Relations as relations;
 ghost use Rattle.and_or_tables.specs.Ground.{known};
 ghost use Rattle.rsml_meaning.specs.Cells.{cells};
 ghost use Rattle.rsml_meaning.specs.Worlds.{IsWorld};
 ghost use Rattle.rsml_ground.specs.Rests.{RestsOn};
-ghost use Rattle.rsml_ground.specs.Truths.{guard_truth, truths_in, value_in};
-ghost use Rattle.macros.specs.Guards.{GuardBelow, phrases_of};
+ghost use Rattle.rsml_ground.specs.Truths.{function_values, guard_truth, macro_truth, truths_in, value_in};
+ghost use Rattle.macros.specs.Guards.{GuardBelow};
 ghost use Rattle.macros.specs.Known.{AreKnown, IsKnown, Knows, StillKnown};
-ghost use Rattle.macros.specs.Named.{Named};
 
 use crate::guards::FastGuard;
 use crate::macros::Macros;
 use crate::memo::Memo;
-use rsml_ground::GroundPhrase;
-use rsml_syntax::World;
+use crate::relation::compare;
+use rsml_ground::{Definition, GroundPhrase};
+use rsml_syntax::{Relation, World};
 use state_tree::Tree;
 
 /// How many phrases are asked inside one another before all lower ones are worked out in order.
@@ -56,47 +58,199 @@ impl<'a> Macros<'a> {
         if memo.knows(phrase) {
             return memo.truths().get(phrase);
         }
-        let asked = self.phrase(phrase);
-        self.ask_named(tree, world, memo, asked, phrase, depth);
-        let truth = self.truth_by(tree, world, memo, phrase, asked);
+        let truth = self.ask_phrase(tree, world, memo, phrase, self.phrase(phrase), depth);
         memo.learn(phrase, truth);
         truth
     }
 
-    /// Makes the truths known of the phrases that a phrase names. They have lower numbers.
+    /// The truth of the phrase of a number. What it names is asked no further than its truth needs, or all lower phrases are
+    /// worked out where no more phrases may be asked inside it.
     #[cycle(ask)]
-    fn ask_named(
+    fn ask_phrase(
         &self,
         tree: &Tree<'_>,
         world: &World,
         memo: &mut Memo,
+        number: u32,
         phrase: &GroundPhrase,
-        below: u32,
         depth: u32,
-    )
+    ) -> bool
         requires tree { tree.now ≡ self.now.spec }
         requires world { IsWorld self.now.spec world.now }
         requires knows { Knows self.now world.now memo.old }
-        requires below { below ≤ length self.now.phrases }
-        requires rests { RestsOn self.now.definitions (length (cells self.now.spec)) below phrase.now }
+        requires phrase { slice_get self.now.phrases number ≡ Some phrase.now }
+        requires rests { RestsOn self.now.definitions (length (cells self.now.spec)) number phrase.now }
+        ensures truth { result ≡ known (truths_in self.now world.now) number }
         ensures knows { Knows self.now world.now memo.new }
         ensures kept { StillKnown memo.old memo.new }
-        ensures learned { Named (IsKnown memo.new) self.now.definitions phrase.now }
     {
+        let _ = self.spec();
         if depth == 0 {
-            return self.ask_below(tree, world, memo, below);
+            self.ask_below(tree, world, memo, number);
+            return self.truth_by(tree, world, memo, number, phrase);
         }
         match phrase {
-            GroundPhrase::In(_) | GroundPhrase::Compare { .. } => {}
-            GroundPhrase::Any(numbers) | GroundPhrase::Every(numbers) => {
-                self.ask_each(tree, world, memo, numbers.as_slice(), depth - 1)
+            GroundPhrase::In(_) | GroundPhrase::Compare { .. } => {
+                self.truth_by(tree, world, memo, number, phrase)
             }
-            GroundPhrase::Macro(number)
-            | GroundPhrase::Function {
-                function: number,
-                ..
-            } => self.ask_guards(tree, world, memo, self.guards(*number), depth - 1),
+            GroundPhrase::Any(numbers) => {
+                self.ask_some(tree, world, memo, numbers.as_slice(), depth - 1)
+            }
+            GroundPhrase::Every(numbers) => {
+                self.ask_every(tree, world, memo, numbers.as_slice(), depth - 1)
+            }
+            GroundPhrase::Macro(table) => self.ask_macro(tree, world, memo, *table, depth - 1),
+            GroundPhrase::Function {
+                function,
+                relation,
+                constant,
+            } => self.ask_function(
+                tree,
+                world,
+                memo,
+                *function,
+                *relation,
+                *constant,
+                depth - 1,
+            ),
         }
+    }
+
+    /// Whether some of these phrases is true. Those after the first true one are not asked.
+    #[cycle(ask)]
+    fn ask_some(
+        &self,
+        tree: &Tree<'_>,
+        world: &World,
+        memo: &mut Memo,
+        numbers: &[u32],
+        depth: u32,
+    ) -> bool
+        requires tree { tree.now ≡ self.now.spec }
+        requires world { IsWorld self.now.spec world.now }
+        requires knows { Knows self.now world.now memo.old }
+        requires numbers { All (λ k. k < length self.now.phrases) numbers.now }
+        ensures truth { result ≡ list_any (known (truths_in self.now world.now)) numbers.now }
+        ensures knows { Knows self.now world.now memo.new }
+        ensures kept { StillKnown memo.old memo.new }
+    {
+        for number in numbers {
+            if self.ask_within(tree, world, memo, *number, depth) {
+                return true;
+            }
+        }
+        false
+    }
+
+    /// Whether each of these phrases is true. Those after the first false one are not asked.
+    #[cycle(ask)]
+    fn ask_every(
+        &self,
+        tree: &Tree<'_>,
+        world: &World,
+        memo: &mut Memo,
+        numbers: &[u32],
+        depth: u32,
+    ) -> bool
+        requires tree { tree.now ≡ self.now.spec }
+        requires world { IsWorld self.now.spec world.now }
+        requires knows { Knows self.now world.now memo.old }
+        requires numbers { All (λ k. k < length self.now.phrases) numbers.now }
+        ensures truth { result ≡ list_all (known (truths_in self.now world.now)) numbers.now }
+        ensures knows { Knows self.now world.now memo.new }
+        ensures kept { StillKnown memo.old memo.new }
+    {
+        for number in numbers {
+            if !self.ask_within(tree, world, memo, *number, depth) {
+                return false;
+            }
+        }
+        true
+    }
+
+    /// The truth of a macro's table. A function has none.
+    #[cycle(ask)]
+    fn ask_macro(
+        &self,
+        tree: &Tree<'_>,
+        world: &World,
+        memo: &mut Memo,
+        number: u32,
+        depth: u32,
+    ) -> bool
+        requires tree { tree.now ≡ self.now.spec }
+        requires world { IsWorld self.now.spec world.now }
+        requires knows { Knows self.now world.now memo.old }
+        requires number { number < length self.now.definitions }
+        ensures truth { result ≡ macro_truth (truths_in self.now world.now) (slice_get self.now.definitions number) }
+        ensures knows { Knows self.now world.now memo.new }
+        ensures kept { StillKnown memo.old memo.new }
+    {
+        match self.definition(number) {
+            Definition::Macro(_) => {
+                self.ask_guard_within(tree, world, memo, &self.guards(number)[0], depth)
+            }
+            Definition::Function(_) => false,
+        }
+    }
+
+    /// Whether some case of a function has a true guard and a value that stands in the relation to the constant. Cases after
+    /// the first such are not asked. A macro has no cases.
+    #[cycle(ask)]
+    fn ask_function(
+        &self,
+        tree: &Tree<'_>,
+        world: &World,
+        memo: &mut Memo,
+        function: u32,
+        relation: Relation,
+        constant: i64,
+        depth: u32,
+    ) -> bool
+        requires tree { tree.now ≡ self.now.spec }
+        requires world { IsWorld self.now.spec world.now }
+        requires knows { Knows self.now world.now memo.old }
+        requires function { function < length self.now.definitions }
+        ensures truth { result ≡ list_any (λ x. relations.compare relation x constant)
+            (function_values world.now.cells (truths_in self.now world.now) (slice_get self.now.definitions function)) }
+        ensures knows { Knows self.now world.now memo.new }
+        ensures kept { StillKnown memo.old memo.new }
+    {
+        let Definition::Function(list) = self.definition(function) else {
+            return false;
+        };
+        let cases = list.as_slice();
+        let guards = self.guards(function);
+        for place in 0..cases.len() {
+            if self.ask_guard_within(tree, world, memo, &guards[place], depth)
+                && compare(relation, self.case_value(world, &cases[place]), constant)
+            {
+                return true;
+            }
+        }
+        false
+    }
+
+    /// The truth of a guard.
+    #[cycle(ask)]
+    fn ask_guard_within(
+        &self,
+        tree: &Tree<'_>,
+        world: &World,
+        memo: &mut Memo,
+        guard: &FastGuard,
+        depth: u32,
+    ) -> bool
+        requires tree { tree.now ≡ self.now.spec }
+        requires world { IsWorld self.now.spec world.now }
+        requires knows { Knows self.now world.now memo.old }
+        requires guard { GuardBelow (length self.now.phrases) guard.now }
+        ensures truth { result ≡ guard_truth (truths_in self.now world.now) guard.now }
+        ensures knows { Knows self.now world.now memo.new }
+        ensures kept { StillKnown memo.old memo.new }
+    {
+        self.ask_each(tree, world, memo, guard.phrases(), depth);
+        guard.truth(memo.truths())
     }
 
     /// Makes the truths known of all phrases below a number, one after the other.
@@ -132,29 +286,6 @@ impl<'a> Macros<'a> {
         memo.learn(number, truth);
     }
 
-    /// Makes the truths known of the phrases that guards name.
-    #[cycle(ask)]
-    fn ask_guards(
-        &self,
-        tree: &Tree<'_>,
-        world: &World,
-        memo: &mut Memo,
-        guards: &[FastGuard],
-        depth: u32,
-    )
-        requires tree { tree.now ≡ self.now.spec }
-        requires world { IsWorld self.now.spec world.now }
-        requires knows { Knows self.now world.now memo.old }
-        requires guards { All (λ g. All (λ k. k < length self.now.phrases) (phrases_of g)) guards.now }
-        ensures knows { Knows self.now world.now memo.new }
-        ensures kept { StillKnown memo.old memo.new }
-        ensures learned { All (λ g. All (IsKnown memo.new) (phrases_of g)) guards.now }
-    {
-        for guard in guards {
-            self.ask_each(tree, world, memo, guard.phrases(), depth);
-        }
-    }
-
     /// Makes the truths of phrases known.
     #[cycle(ask)]
     fn ask_each(&self, tree: &Tree<'_>, world: &World, memo: &mut Memo, numbers: &[u32], depth: u32)
@@ -188,8 +319,7 @@ impl<'a> Macros<'a> {
         ensures knows { Knows self.now world.now memo.new }
         ensures kept { StillKnown memo.old memo.new }
     {
-        self.ask_each(tree, world, memo, guard.phrases(), DEPTH);
-        guard.truth(memo.truths())
+        self.ask_guard_within(tree, world, memo, guard, DEPTH)
     }
 
     /// The value of the first case of a function whose guard is true, 0 where none is. What its guards rest on is worked out
@@ -203,7 +333,16 @@ impl<'a> Macros<'a> {
         ensures knows { Knows self.now world.now memo.new }
         ensures kept { StillKnown memo.old memo.new }
     {
-        self.ask_guards(tree, world, memo, self.guards(function), DEPTH);
-        self.function_value(world, memo.truths(), function)
+        let Definition::Function(list) = self.definition(function) else {
+            return 0;
+        };
+        let cases = list.as_slice();
+        let guards = self.guards(function);
+        for place in 0..cases.len() {
+            if self.ask_guard(tree, world, memo, &guards[place]) {
+                return self.case_value(world, &cases[place]);
+            }
+        }
+        0
     }
 }

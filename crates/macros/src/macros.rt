@@ -30,7 +30,8 @@ use crate::sums::sum_number;
 use and_or_tables::Truths;
 use phrase_builder::Lookup;
 use rsml_ground::{
-    Definition, GroundPhrase, GroundSum, Phrases, functions_mean_the_text, phrases_mean_the_text,
+    Definition, GroundCase, GroundPhrase, GroundSum, Phrases, functions_mean_the_text,
+    phrases_mean_the_text,
 };
 use rsml_syntax::{Checked, List, NoMemory, Relation, Spec, World};
 use state_arrays::Names;
@@ -274,9 +275,18 @@ impl<'a> Macros<'a> {
         }
     }
 
+    /// The value of a case.
+    pub(crate) fn case_value(&self, world: &World, case: &GroundCase) -> i64
+        requires world { IsWorld self.now.spec world.now }
+        requires fits { SumFits (length (cells self.now.spec)) case.now.value }
+        ensures { result ≡ spec.sum_number world.now.cells case.now.value }
+    {
+        sum_number(self.cells(world), &case.value)
+    }
+
     /// The value of a function by these truths: that of its first case with a true guard, 0 where there is none. A macro has
     /// no value.
-    pub(crate) fn function_value(&self, world: &World, truths: &Truths, number: u32) -> i64
+    fn function_value(&self, world: &World, truths: &Truths, number: u32) -> i64
         requires world { IsWorld self.now.spec world.now }
         requires number { number < length self.now.definitions }
         requires truths { length truths.now ≡ length self.now.phrases }

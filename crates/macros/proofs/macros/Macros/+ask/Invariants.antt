@@ -1,26 +1,56 @@
-use Rattle.std.proofs.Common.{◌+◌, ◌*◌, take}
-use Rattle.std.specs.List.{All}
-use Rattle.macros.specs.Guards.{phrases_of}
+use Rattle.std.proofs.Common.{◌≡◌, ◌+◌, ◌*◌, true, false, drop, take}
+use Rattle.std.specs.List.{All, list_any, list_all}
+use Rattle.rsml_syntax.specs.rules.Relations.{compare}
+use Rattle.and_or_tables.specs.Ground.{known}
+use Rattle.rsml_ground.specs.Truths.{case_values, truths_in}
 use Rattle.macros.specs.Known.{IsKnown, Knows, StillKnown}
 use Rattle.macros.proofs.macros.Macros.+ask.Given as goal
 
 abbrev pub decreases-ask_within : goal.decreases-ask_within
-decreases-ask_within l = 4 * l.depth + 3
+decreases-ask_within l = 5 * l.depth + 1
 
-abbrev pub decreases-ask_named : goal.decreases-ask_named
-decreases-ask_named l = 4 * l.depth + 2
+abbrev pub decreases-ask_phrase : goal.decreases-ask_phrase
+decreases-ask_phrase l = 5 * l.depth
 
-abbrev pub decreases-ask_guards : goal.decreases-ask_guards
-decreases-ask_guards l = 4 * l.depth + 5
+abbrev pub decreases-ask_some : goal.decreases-ask_some
+decreases-ask_some l = 5 * l.depth + 2
+
+abbrev pub decreases-ask_every : goal.decreases-ask_every
+decreases-ask_every l = 5 * l.depth + 2
+
+abbrev pub decreases-ask_macro : goal.decreases-ask_macro
+decreases-ask_macro l = 5 * l.depth + 4
+
+abbrev pub decreases-ask_function : goal.decreases-ask_function
+decreases-ask_function l = 5 * l.depth + 4
+
+abbrev pub decreases-ask_guard_within : goal.decreases-ask_guard_within
+decreases-ask_guard_within l = 5 * l.depth + 3
 
 abbrev pub decreases-ask_each : goal.decreases-ask_each
-decreases-ask_each l = 4 * l.depth + 4
+decreases-ask_each l = 5 * l.depth + 2
 
-abbrev pub invariant-ask_guards-loop-guard : goal.invariant-ask_guards-loop-guard
-invariant-ask_guards-loop-guard l = record {
+abbrev pub invariant-ask_some-loop-number : goal.invariant-ask_some-loop-number
+invariant-ask_some-loop-number l = record {
   knows : Knows l.self l.world l.memo;
   kept : StillKnown l.fn.memo l.memo;
-  learned : All (λ g. All (IsKnown l.memo) (phrases_of g)) (take l.guard-index l.guards);
+  none : list_any (known (truths_in l.self l.world)) (take l.number-index l.numbers) ≡ false;
+}
+
+abbrev pub invariant-ask_every-loop-number : goal.invariant-ask_every-loop-number
+invariant-ask_every-loop-number l = record {
+  knows : Knows l.self l.world l.memo;
+  kept : StillKnown l.fn.memo l.memo;
+  all : list_all (known (truths_in l.self l.world)) (take l.number-index l.numbers) ≡ true;
+}
+
+-- no case before this place has a true guard and a value in the relation
+abbrev pub invariant-ask_function-loop-place : goal.invariant-ask_function-loop-place
+invariant-ask_function-loop-place l = record {
+  knows : Knows l.self l.world l.memo;
+  kept : StillKnown l.fn.memo l.memo;
+  rest : list_any (λ x. compare l.relation x l.constant) (case_values l.world.cells (truths_in l.self l.world) (drop l.place l.cases))
+      ≡ list_any (λ x. compare l.relation x l.constant) (case_values l.world.cells (truths_in l.self l.world) l.cases);
 }
 
 abbrev pub invariant-ask_each-loop-number : goal.invariant-ask_each-loop-number
