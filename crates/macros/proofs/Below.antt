@@ -124,7 +124,8 @@ below_guard n (guards.Table table) b = all_map (λ k. k < n) (λ row. row.phrase
     all_map : {A B : Type 0} (P : B → Type 0) (f : A → B) (xs : List A) → All (λ x. P (f x)) xs → All P (map f xs)
     all_map P f xs a = each_all P (map f xs) (each_map P f xs (all_each (λ x. P (f x)) xs a))
 
-there : {A : Type 0} (xs : List A) (i : ℕ) → i < length xs → (x : A) × (slice_get xs i ≡ Some x)
+-- an item at each place of a list
+pub there : {A : Type 0} (xs : List A) (i : ℕ) → i < length xs → (x : A) × (slice_get xs i ≡ Some x)
 there [] i within = absurd (omega (arith, within))
 there (x ∷ xs) zero within = (x, refl)
 there (x ∷ xs) (suc i) within = there xs i (omega (arith, within))

@@ -5,6 +5,7 @@ pub mod Below
 pub mod Filling
 pub mod Learning
 pub mod Marks
+pub mod OneTerm
 pub mod SmallCells
 pub mod Values
 mod Means

@@ -1,4 +1,5 @@
 pub mod Guards
 pub mod Known
 pub mod Named
+pub mod Pairs
 pub mod Tables

@@ -9,6 +9,7 @@ mod fast;
 mod guards;
 mod macros;
 mod memo;
+mod pairs;
 mod phrases;
 mod relation;
 mod sums;

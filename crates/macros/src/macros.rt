@@ -7,12 +7,13 @@ ghost use Rattle.rsml_ground.specs.StandsFor.{PhraseIs};
 ghost use Rattle.rsml_meaning.specs.Cells.{cells};
 ghost use Rattle.rsml_meaning.specs.Worlds.{IsWorld};
 ghost use Rattle.rsml_ground.specs.Grounded.{IsGrounded, IsShort};
-ghost use Rattle.rsml_ground.specs.Rests.{DefinitionFits, IsDefined, IsSmall, RestsOn, SumFits};
+ghost use Rattle.rsml_ground.specs.Rests.{DefinitionFits, IsDefined, IsSmall, OperandFits, RestsOn, SumFits};
 ghost use Rattle.and_or_tables.specs.Ground.{known};
 ghost use Rattle.macros.specs.Known.{IsKnown, Knows};
 ghost use Rattle.macros.specs.Named.{Named};
 ghost use Rattle.rsml_syntax.specs.rules.Relations as relations;
 ghost use Rattle.rsml_ground.specs.declared.definitions.Definition.{Definition as DefinitionValue};
+ghost use Rattle.rsml_ground.specs.declared.phrases.GroundPhrase.{GroundPhrase as PhraseValue};
 ghost use Rattle.std.specs.List.{list_any};
 ghost use Rattle.macros.specs.Guards.{guards_of, phrases_of};
 ghost use Rattle.rsml_ground.specs.Truths as spec;
@@ -24,9 +25,10 @@ use crate::cases::{first_value, some_value};
 use crate::fast::tables_of;
 use crate::guards::FastGuard;
 use crate::memo::Memo;
+use crate::pairs::{Pair, pairs_of};
 use crate::phrases::{each_true, some_true};
 use crate::relation::compare;
-use crate::sums::sum_number;
+use crate::sums::{sum_number, term_number};
 use and_or_tables::Truths;
 use phrase_builder::Lookup;
 use rsml_ground::{
@@ -46,6 +48,7 @@ pub struct Macros<'a> {
     phrases: Phrases,
     definitions: Vec<Definition>,
     tables: Vec<List<FastGuard>>,
+    pairs: Vec<Option<Pair>>,
 }
 
 impl<'a> Model for Macros<'a> {
@@ -61,7 +64,7 @@ impl<'a> Model for Macros<'a> {
     ghost view = { λ m. with_parts m.spec.now m.phrases m.definitions.items };
 
     ghost invariant = { λ m. AreMacros
-        (with_parts m.spec.now m.phrases m.definitions.items) m.tables.items };
+        (with_parts m.spec.now m.phrases m.definitions.items) m.tables.items m.pairs.items };
 }
 
 impl<'a> Macros<'a> {
@@ -76,11 +79,13 @@ impl<'a> Macros<'a> {
         ensures { IfOk result (λ m. m ≡ with_parts spec.now phrases definitions.items) }
     {
         let tables = tables_of(alloc, definitions.as_slice())?;
+        let pairs = pairs_of(alloc, &phrases)?;
         Ok(Macros {
             spec,
             phrases,
             definitions,
             tables,
+            pairs,
         })
     }
 
@@ -195,6 +200,38 @@ impl<'a> Macros<'a> {
                 constant,
             } => self.function_truth(world, truths, *function, *relation, *constant),
         }
+    }
+
+    /// The truth of the phrase of a number in a world, by the truths of the phrases on which it rests. A comparison of one term
+    /// with one term is read from where all such lie one after another.
+    fn number_truth(&self, tree: &Tree<'_>, world: &World, truths: &Truths, number: u32) -> bool
+        requires tree { tree.now ≡ self.now.spec }
+        requires world { IsWorld self.now.spec world.now }
+        requires number { number < length self.now.phrases }
+        requires many { length truths.now ≡ length self.now.phrases }
+        ensures { (p : PhraseValue) → slice_get self.now.phrases number ≡ Some p
+            → result ≡ spec.phrase_truth self.now world.now truths.now p }
+    {
+        match self.pairs[number as usize] {
+            Some(pair) => self.pair_truth(world, pair),
+            None => self.phrase_truth(tree, world, truths, self.phrase(number)),
+        }
+    }
+
+    /// Whether the relation holds between two terms.
+    fn pair_truth(&self, world: &World, pair: Pair) -> bool
+        requires world { IsWorld self.now.spec world.now }
+        requires left { OperandFits (length (cells self.now.spec)) pair.left.operand }
+        requires right { OperandFits (length (cells self.now.spec)) pair.right.operand }
+        ensures { result ≡ relations.compare pair.relation
+            (spec.term_number world.now.cells pair.left) (spec.term_number world.now.cells pair.right) }
+    {
+        let cells = self.cells(world);
+        compare(
+            pair.relation,
+            term_number(cells, pair.left),
+            term_number(cells, pair.right),
+        )
     }
 
     /// The truth of the phrase of a number in a world in which all that it names is known.
@@ -316,7 +353,7 @@ impl<'a> Macros<'a> {
         phrases_mean_the_text();
         let _ = &self.spec;
         for number in 0..self.phrases() {
-            let truth = self.phrase_truth(tree, world, truths, self.phrase(number));
+            let truth = self.number_truth(tree, world, truths, number);
             truths.set(number, truth);
         }
     }

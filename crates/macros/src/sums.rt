@@ -18,7 +18,7 @@ pub fn sum_number(cells: &[i64], sum: &GroundSum) -> i64
 }
 
 /// The number of a term, with its sign.
-fn term_number(cells: &[i64], term: GroundTerm) -> i64
+pub fn term_number(cells: &[i64], term: GroundTerm) -> i64
     requires fits { OperandFits (length cells.now) term.operand }
     requires small { All IsSmall cells.now }
     ensures number { result ≡ spec.term_number cells.now term }
