@@ -8,7 +8,6 @@ use Rattle.rsml_syntax.specs.declared.syntax.Spec.{Spec}
 use Rattle.rsml_syntax.specs.declared.syntax.Body.{Body, Basic, One', All'}
 use Rattle.rsml_syntax.specs.declared.syntax.Bus.{Bus}
 use Rattle.rsml_syntax.specs.declared.syntax.Transition.{Transition}
-use Rattle.rsml_syntax.specs.text.Names.{Name}
 use Rattle.rsml_syntax.specs.grammar.Parts as part
 use Rattle.rsml_syntax.specs.rules.Globals.{Globals}
 use Rattle.rsml_meaning.specs.Words.{Path, numbered_from, numbered}
@@ -20,8 +19,11 @@ use Rattle.state_tree.proofs.Bodies.{body_component}
 use Rattle.state_arrays.specs.Places.{path_at}
 use Rattle.ground_members.specs.declared.written.Owner.{Owner}
 use Rattle.ground_members.specs.declared.written.Written.{Written}
-use Rattle.ground_members.specs.Written.{made_from, made_at, made_by, all_made_by, IsPlaced, ArePlaced, Adds, of_state}
-use Rattle.ground_members.proofs.Lists.{map_append}
+use Rattle.ground_members.specs.Written.{made_at, made_by, all_made_by, IsPlaced, ArePlaced, Adds, of_state}
+
+pub flat_append : {A B : Type 0} (f : A → List B) (xs ys : List A) → flat_map f (xs ++ ys) ≡ flat_map f xs ++ flat_map f ys
+flat_append f [] ys = refl
+flat_append f (x ∷ xs) ys = ap (λ zs. f x ++ zs) (flat_append f xs ys) ∙ sym (append_assoc (f x) (flat_map f xs) (flat_map f ys))
 
 -- nothing is added
 pub none_added : (owner : Owner) (make : Globals → List TransitionInstance) (old : List Written) → ((g : Globals) → make g ≡ []) → Adds owner make old old
@@ -35,9 +37,9 @@ pub added_as : (owner : Owner) (make other : Globals → List TransitionInstance
 added_as owner make other old new a e = record { made = λ g. a.made g ∙ ap (λ zs. all_made_by g old ++ zs) (e g); placed = a.placed }
 
 -- one is added
-pub one_added : (owner : Owner) (n : ℕ) (old new : List Written) (w : Written) → w.owner ≡ owner → new ≡ old ++ (w ∷ []) → Adds owner (λ g. made_by g w ∷ []) old new
-one_added owner n old new w o e = subst (Adds owner (λ g. made_by g w ∷ []) old) (sym e) (record {
-  made = λ g. map_append (made_by g) old (w ∷ []);
+pub one_added : (owner : Owner) (old new : List Written) (w : Written) → w.owner ≡ owner → new ≡ old ++ (w ∷ []) → Adds owner (λ g. made_by g w) old new
+one_added owner old new w o e = subst (Adds owner (λ g. made_by g w) old) (sym e) (record {
+  made = λ g. flat_append (made_by g) old (w ∷ []) ∙ ap (λ zs. all_made_by g old ++ zs) (append-nil (made_by g w));
   placed = λ xs p h. each_append (λ (w : Written). IsPlaced xs w.owner) old (w ∷ []) h (subst (IsPlaced xs) (sym o) p, tt);
 })
 
@@ -48,32 +50,7 @@ both_added owner make more old mid new a b = record {
   placed = λ xs p h. b.placed xs p (a.placed xs p h);
 }
 
--- one turn of the loop over sources
-pub source_turn : (owner : Owner) (n : ℕ) (t : Transition) (names : List Name) (i : ℕ) (x : Name) (old mid new : List Written) (w : Written)
-    → Adds owner (λ g. map (made_from g owner.path.now n t) (take i names)) old mid → i < length names → x ≡ get_or names i x → new ≡ mid ++ (w ∷ []) → w.owner ≡ owner → ((g : Globals) → made_by g w ≡ made_from g owner.path.now n t x)
-    → Adds owner (λ g. map (made_from g owner.path.now n t) (take (i + 1) names)) old new
-source_turn owner n t names i x old mid new w a l is e o same =
-    added_as owner (λ g. map (made_from g owner.path.now n t) (take i names) ++ (made_by g w ∷ [])) (λ g. map (made_from g owner.path.now n t) (take (i + 1) names)) old new
-    (both_added owner (λ g. map (made_from g owner.path.now n t) (take i names)) (λ g. made_by g w ∷ []) old mid new a (one_added owner n mid new w o e))
-    (λ g.
-    ap (λ z. map (made_from g owner.path.now n t) (take i names) ++ (z ∷ [])) (same g)
-    ∙ sym (map_append (made_from g owner.path.now n t) (take i names) (x ∷ []))
-    ∙ ap (λ z. map (made_from g owner.path.now n t) (take i names ++ (z ∷ []))) is
-    ∙ ap (map (made_from g owner.path.now n t)) (sym (more names i x l)))
-  where
-    more : (xs : List Name) (i : ℕ) (x : Name) → i < length xs → take (i + 1) xs ≡ take i xs ++ (get_or xs i x ∷ [])
-    more xs i x l = take_more xs i x l
-
-pub all_sources : (owner : Owner) (n : ℕ) (t : Transition) (names : List Name) (i : ℕ) (old new : List Written)
-    → Adds owner (λ g. map (made_from g owner.path.now n t) (take i names)) old new → length names ≤ i → Adds owner (λ g. map (made_from g owner.path.now n t) names) old new
-all_sources owner n t names i old new a l =
-    added_as owner (λ g. map (made_from g owner.path.now n t) (take i names)) (λ g. map (made_from g owner.path.now n t) names) old new a (λ g. ap (map (made_from g owner.path.now n t)) (take_all i names l))
-
 -- Numbered transitions.
-
-pub flat_append : {A B : Type 0} (f : A → List B) (xs ys : List A) → flat_map f (xs ++ ys) ≡ flat_map f xs ++ flat_map f ys
-flat_append f [] ys = refl
-flat_append f (x ∷ xs) ys = ap (λ zs. f x ++ zs) (flat_append f xs ys) ∙ sym (append_assoc (f x) (flat_map f xs) (flat_map f ys))
 
 pub numbered_append : {A : Type 0} (n : ℕ) (xs : List A) (x : A) → numbered_from n (xs ++ (x ∷ [])) ≡ numbered_from n xs ++ ((n + length xs, x) ∷ [])
 numbered_append n [] x = let e : n ≡ n + 0 = omega arith in ap (λ k. (k, x) ∷ []) e

@@ -1,4 +1,6 @@
 pub mod Adding
+pub mod Buses
+pub mod Likeness
 pub mod Listing
 pub mod Lists
 pub mod Numbers

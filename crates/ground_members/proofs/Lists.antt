@@ -1,5 +1,5 @@
 -- Lists that are gone over item by item.
-use Rattle.std.proofs.Common.{◌≡◌, ℕ, zero, suc, ◌+◌, ◌<◌, ◌≤◌, List, [], ◌∷◌, ◌++◌, map, length, take, get_or, refl, sym, ap, ◌∙◌, subst, not-suc-le-zero, le_of_suc-le-suc}
+use Rattle.std.proofs.Common.{◌≡◌, ℕ, zero, suc, ◌+◌, ◌<◌, ◌≤◌, List, [], ◌∷◌, ◌++◌, map, flat_map, length, take, get_or, refl, sym, ap, ◌∙◌, subst, not-suc-le-zero, le_of_suc-le-suc}
 use Rattle.std.specs.List.{AllZip}
 use Rattle.std.proofs.lemmas.List.{take_more, take_all}
 use Rattle.rsml_meaning.specs.Words.{Each}
@@ -20,9 +20,24 @@ each_mapped P f [] i x e l is = absurd (not-suc-le-zero l)
 each_mapped P f (y ∷ xs) zero x e l is = subst (λ z. P (f z)) (sym is) e.0
 each_mapped P f (y ∷ xs) (suc i) x e l is = each_mapped P f xs i x e.1 (le_of_suc-le-suc l) is
 
+each_front : {A : Type 0} (P : A → Type 0) (xs ys : List A) → Each P (xs ++ ys) → Each P xs × Each P ys
+each_front P [] ys h = (tt, h)
+each_front P (x ∷ xs) ys h = let r = each_front P xs ys h.1 in ((h.0, r.0), r.1)
+
+pub each_of_flat : {A B : Type 0} (P : B → Type 0) (f : A → List B) (xs : List A) (i : ℕ) (x : A) → Each P (flat_map f xs) → i < length xs → x ≡ get_or xs i x → Each P (f x)
+each_of_flat P f [] i x h l is = absurd (not-suc-le-zero l)
+each_of_flat P f (y ∷ xs) zero x h l is = subst (λ z. Each P (f z)) (sym is) (each_front P (f y) (flat_map f xs) h).0
+each_of_flat P f (y ∷ xs) (suc i) x h l is = each_of_flat P f xs i x (each_front P (f y) (flat_map f xs) h).1 (le_of_suc-le-suc l) is
+
 -- What holds of pairs.
 
-zip_to : {A B : Type 0} (P Q : A → B → Type 0) → ((x : A) (y : B) → P x y → Q x y) → (xs : List A) (ys : List B) → AllZip P xs ys → AllZip Q xs ys
+pub zip_append : {A B : Type 0} (R : A → B → Type 0) (xs zs : List A) (ys ws : List B) → AllZip R xs ys → AllZip R zs ws → AllZip R (xs ++ zs) (ys ++ ws)
+zip_append R [] zs [] ws h k = k
+zip_append R (x ∷ xs) zs (y ∷ ys) ws h k = (h.0, zip_append R xs zs ys ws h.1 k)
+zip_append R [] zs (y ∷ ys) ws h k = elim h [ ]
+zip_append R (x ∷ xs) zs [] ws h k = elim h [ ]
+
+pub zip_to : {A B : Type 0} (P Q : A → B → Type 0) → ((x : A) (y : B) → P x y → Q x y) → (xs : List A) (ys : List B) → AllZip P xs ys → AllZip Q xs ys
 zip_to P Q f [] [] e = tt
 zip_to P Q f (x ∷ xs) (y ∷ ys) e = (f x y e.0, zip_to P Q f xs ys e.1)
 zip_to P Q f [] (y ∷ ys) e = elim e [ ]

@@ -1,3 +1,4 @@
+pub mod Alike
 pub mod Members
 pub mod Scoped
 pub mod Written

@@ -1,5 +1,5 @@
 -- Transitions and cases of sends as they are written, before their parts have numbers.
-use Rattle.std.specs.Prelude.{◌≡◌, ℕ, List, [], ◌++◌, map, Some, slice_get}
+use Rattle.std.specs.Prelude.{◌≡◌, ℕ, List, [], ◌++◌, map, flat_map, Some, slice_get}
 use Rattle.std.specs.Option.{option_map_or}
 use Rattle.rsml_syntax.specs.declared.syntax.Spec.{Spec}
 use Rattle.rsml_syntax.specs.declared.syntax.Bus.{Bus}
@@ -26,13 +26,17 @@ made_from g path n t source = new_transition g (component_at path [] []) (n, t) 
 abbrev pub made_at : Globals → Path → List Bus → ℕ × Transition → List TransitionInstance
 made_at g path buses t = map (made_from g path t.0 t.1) (sources (component_at path buses []) t.1.source)
 
--- the transition instance that is written
-abbrev pub made_by : Globals → Written → TransitionInstance
-made_by g x = made_from g x.owner.path.now x.ordinal x.transition.now x.source.now
+-- the transition instance that is written, from a source
+abbrev pub made_of : Globals → Written → Name → TransitionInstance
+made_of g x source = made_from g x.owner.path.now x.ordinal x.transition.now source
+
+-- the transition instances that are written as one: from each source
+abbrev pub made_by : Globals → Written → List TransitionInstance
+made_by g x = map (made_of g x) x.sources.now
 
 -- the transition instances that are written
 abbrev pub all_made_by : Globals → List Written → List TransitionInstance
-all_made_by g xs = map (made_by g) xs
+all_made_by g xs = flat_map (made_by g) xs
 
 -- The numbers of a component are its places, and its index is that of `this`.
 pub record IsPlaced (xs : List State) (x : Owner) : Type 0 where

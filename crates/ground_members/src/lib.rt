@@ -1,7 +1,9 @@
 //! The transitions and the cases of sends of a specification, over numbers of states, events, phrases and cells.
 #![tactic(auto)]
 
+mod alike;
 mod answers;
+mod copies;
 mod events;
 mod send_cases;
 mod targets;

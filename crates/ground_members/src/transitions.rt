@@ -1,19 +1,21 @@
-ghost use Rattle.std.specs.Prelude.{◌≡◌, IfOk};
+ghost use Rattle.std.specs.Prelude.{◌≡◌, IfOk, OnOk};
 ghost use Rattle.std.specs.List.{AllZip};
 ghost use Rattle.rsml_meaning.specs.Words.{Each};
 ghost use Rattle.rsml_meaning.specs.Instances.{globals_of, states};
 ghost use Rattle.rsml_ground.specs.Grounded.{IsGrounded};
 ghost use Rattle.rsml_ground.specs.Numbers.{Keeps};
+ghost use Rattle.ground_members.specs.Alike.{AddsAll};
 ghost use Rattle.ground_members.specs.Members.{TransitionIs, AreTransitions};
 ghost use Rattle.ground_members.specs.Scoped.{TransitionIsScoped};
-ghost use Rattle.ground_members.specs.Written.{made_by, all_made_by, IsPlaced, ArePlaced};
+ghost use Rattle.ground_members.specs.Written.{made_of, made_by, all_made_by, IsPlaced, ArePlaced};
 
+use crate::alike::add_alike;
 use crate::events::{event_number, event_numbers};
 use crate::targets::{child, target};
 use crate::written::{Written, written_transitions};
 use phrase_builder::{Lookup, guard};
 use rsml_ground::{Definition, GroundGuard, Phrases};
-use rsml_syntax::{List, NoMemory};
+use rsml_syntax::{List, NoMemory, Text};
 use state_tree::Tree;
 use std::alloc::Global;
 
@@ -31,20 +33,21 @@ pub struct GroundTransition {
     pub ordinal: u32,
 }
 
-// A transition as it is written, over numbers.
+// A transition as it is written, over numbers, from one of its sources.
 fn transition(
     alloc: Global,
     lookup: &Lookup<'_, '_>,
     definitions: &[Definition],
     phrases: &mut Phrases,
     written: &Written<'_, '_>,
+    source: &Text,
 ) -> Result<GroundTransition, NoMemory>
     requires before { IsGrounded (record { spec = lookup.now; phrases = phrases.old; definitions = definitions.now }) }
     requires placed { IsPlaced (states lookup.now) written.now.owner }
-    requires scoped { TransitionIsScoped lookup.now (made_by (globals_of lookup.now) written.now) }
+    requires scoped { TransitionIsScoped lookup.now (made_of (globals_of lookup.now) written.now source.now) }
     ensures after { IsGrounded (record { spec = lookup.now; phrases = phrases.new; definitions = definitions.now }) }
     ensures kept { Keeps phrases.old phrases.new }
-    ensures is { IfOk result (λ x. TransitionIs phrases.new lookup.now (made_by (globals_of lookup.now) written.now) x) }
+    ensures is { IfOk result (λ x. TransitionIs phrases.new lookup.now (made_of (globals_of lookup.now) written.now source.now) x) }
 {
     let owner = written.owner;
     let transition = written.transition;
@@ -59,13 +62,44 @@ fn transition(
     let raises = event_numbers(alloc, lookup, owner.this, transition.raises.as_slice())?;
     Ok(GroundTransition {
         component: owner.component,
-        source: child(lookup, owner.node, written.source),
+        source: child(lookup, owner.node, source),
         target: target(lookup, owner.node, transition.target.as_ref()),
         event: event_number(lookup, owner.this, &transition.trigger),
         guard,
         raises,
         ordinal: written.ordinal,
     })
+}
+
+// Adds a transition as it is written, over numbers, once for each of its sources. All but the source is worked out once.
+fn add_transitions(
+    transitions: &mut Vec<GroundTransition>,
+    alloc: Global,
+    lookup: &Lookup<'_, '_>,
+    definitions: &[Definition],
+    phrases: &mut Phrases,
+    written: &Written<'_, '_>,
+) -> Result<(), NoMemory>
+    requires before { IsGrounded (record { spec = lookup.now; phrases = phrases.old; definitions = definitions.now }) }
+    requires placed { IsPlaced (states lookup.now) written.now.owner }
+    requires scoped { Each (TransitionIsScoped lookup.now) (made_by (globals_of lookup.now) written.now) }
+    ensures after { IsGrounded (record { spec = lookup.now; phrases = phrases.new; definitions = definitions.now }) }
+    ensures kept { Keeps phrases.old phrases.new }
+    ensures are { OnOk result (AddsAll phrases.new lookup.now (made_by (globals_of lookup.now) written.now)
+        transitions.old.items transitions.new.items) }
+{
+    let Some((source, others)) = written.sources.split_first() else {
+        return Ok(());
+    };
+    let first = transition(alloc, lookup, definitions, phrases, written, source)?;
+    add_alike(
+        transitions,
+        alloc,
+        lookup,
+        written.owner.node,
+        first,
+        others,
+    )
 }
 
 // The transitions as they are written, over numbers.
@@ -86,7 +120,7 @@ fn transitions_from(
 {
     let mut transitions = Vec::new(alloc);
     for one in written {
-        transitions.push(transition(alloc, lookup, definitions, phrases, one)?)?;
+        add_transitions(&mut transitions, alloc, lookup, definitions, phrases, one)?;
     }
     Ok(transitions)
 }

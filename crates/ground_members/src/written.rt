@@ -1,16 +1,17 @@
-ghost use Rattle.std.specs.Prelude.{◌≡◌, ◌+◌, ◌<◌, ◌++◌, IfOk, OnOk, find, flat_map, length, map};
+ghost use Rattle.std.specs.Prelude.{◌≡◌, [], ◌+◌, ◌<◌, ◌++◌, IfOk, OnOk, find, flat_map, length, map, slice_get};
 ghost use Rattle.std.specs.Option.{option_copied};
 ghost use Rattle.rsml_syntax.specs.rules.Globals.{Globals};
 ghost use Rattle.rsml_syntax.specs.text.Names.{same};
 ghost use Rattle.rsml_meaning.specs.Words.{numbered};
 ghost use Rattle.rsml_meaning.specs.Instances.{states, components};
 ghost use Rattle.rsml_meaning.specs.Transitions as spec;
-ghost use Rattle.ground_members.specs.Written.{made_from, made_at, all_made_by, of_state, ArePlaced, Adds};
+ghost use Rattle.ground_members.specs.Written.{component_at, made_from, made_at, all_made_by, of_state, ArePlaced, Adds};
 
-use rsml_names::{buses_of, transitions_of};
+use rsml_names::{NameList, buses_of, transitions_of};
 use rsml_syntax::{Bus, NoMemory, Text, Transition};
 use state_tree::{StepRef, Tree};
 use std::alloc::Global;
+use std::slice;
 
 /// The component that transitions belong to: its numbers among the components and among the states, its path, and the
 /// index of the innermost array on it.
@@ -22,12 +23,12 @@ pub struct Owner<'a, 't> {
     pub this: u8,
 }
 
-/// A transition of one component from one source, as it is written.
+/// A transition of one component, as it is written, with the names of the children that it leads from.
 #[derive(Clone, Copy)]
 pub struct Written<'a, 't> {
     pub owner: Owner<'a, 't>,
     pub ordinal: u32,
-    pub source: &'a Text,
+    pub sources: &'a [Text],
     pub transition: &'a Transition,
 }
 
@@ -54,65 +55,91 @@ fn innermost(path: &[StepRef<'_>]) -> u8
     index
 }
 
-// The bus of a name, if there is one.
-fn bus_named<'a>(buses: &'a [Bus], name: &Text) -> Option<&'a Bus>
-    ensures { option_copied result ≡ find (λ b. same name.now b.name) buses.now }
+// The names of buses.
+fn bus_names<'a>(alloc: Global, buses: &'a [Bus]) -> Result<NameList<'a>, NoMemory>
+    ensures { IfOk result (λ names. names ≡ map (λ b. b.name) buses.now) }
 {
-    buses.iter().find(|bus| name.bytes() == bus.name.bytes())
+    let mut names = NameList::new(alloc);
+    for bus in buses {
+        names.add(bus.name.bytes())?;
+    }
+    Ok(names)
 }
 
-// Adds a transition once for each of these sources.
-#[tactic(auto, using(crate::proofs::Adding::all_sources))]
-fn add_sources<'a, 't>(
+// The bus at a place, if there is one.
+fn bus_at(buses: &[Bus], place: usize) -> Option<&Bus>
+    ensures { option_copied result ≡ slice_get buses.now place }
+{
+    buses.get(place)
+}
+
+// The bus of a name, if there is one.
+fn bus_named<'a>(names: &NameList<'_>, buses: &'a [Bus], name: &Text) -> Option<&'a Bus>
+    requires { names.now ≡ map (λ b. b.name) buses.now }
+    ensures { option_copied result ≡ find (λ b. same name.now b.name) buses.now }
+{
+    match names.find(name.bytes()) {
+        Some(place) => bus_at(buses, place),
+        None => None,
+    }
+}
+
+// The children that a source stands for: the members of a bus, or the one of that name.
+fn sources_of<'a>(names: &NameList<'_>, buses: &'a [Bus], source: &'a Text) -> &'a [Text]
+    requires { names.now ≡ map (λ b. b.name) buses.now }
+    ensures { result.now ≡ spec.sources (component_at [] buses.now []) source.now }
+{
+    match bus_named(names, buses, source) {
+        Some(bus) => bus.members.as_slice(),
+        None => slice::from_ref(source),
+    }
+}
+
+// Adds a transition.
+fn add_transition<'a, 't>(
     written: &mut Vec<Written<'a, 't>>,
     owner: Owner<'a, 't>,
     ordinal: u32,
-    transition: &'a Transition,
     sources: &'a [Text],
+    transition: &'a Transition,
 ) -> Result<(), NoMemory>
     ensures { OnOk result (Adds owner.entry
         (λ g. map (made_from g owner.entry.path.now ordinal transition.now) sources.now)
         written.old.items written.new.items) }
 {
-    for source in sources {
-        written.push(Written {
-            owner,
-            ordinal,
-            source,
-            transition,
-        })?;
+    written.push(Written {
+        owner,
+        ordinal,
+        sources,
+        transition,
+    })?;
+    Ok(())
+}
+
+// Adds transitions between these buses.
+fn add_transitions<'a, 't>(
+    written: &mut Vec<Written<'a, 't>>,
+    owner: Owner<'a, 't>,
+    names: &NameList<'_>,
+    buses: &'a [Bus],
+    transitions: &'a [Transition],
+) -> Result<(), NoMemory>
+    requires { names.now ≡ map (λ b. b.name) buses.now }
+    ensures { OnOk result (Adds owner.entry
+        (λ g. flat_map (made_at g owner.entry.path.now buses.now) (numbered transitions.now))
+        written.old.items written.new.items) }
+{
+    for (place, transition) in transitions.iter().enumerate() {
+        let ordinal = ordinal_of(place)?;
+        let sources = sources_of(names, buses, &transition.source);
+        add_transition(written, owner, ordinal, sources, transition)?;
     }
     Ok(())
 }
 
-// Adds a transition for each source that it names: the members of a bus, or the one child.
-fn add_transition<'a, 't>(
-    written: &mut Vec<Written<'a, 't>>,
-    owner: Owner<'a, 't>,
-    ordinal: u32,
-    buses: &'a [Bus],
-    transition: &'a Transition,
-) -> Result<(), NoMemory>
-    ensures { OnOk result (Adds owner.entry
-        (λ g. made_at g owner.entry.path.now buses.now (ordinal, transition.now))
-        written.old.items written.new.items) }
-{
-    match bus_named(buses, &transition.source) {
-        Some(bus) => add_sources(written, owner, ordinal, transition, bus.members.as_slice()),
-        None => {
-            written.push(Written {
-                owner,
-                ordinal,
-                source: &transition.source,
-                transition,
-            })?;
-            Ok(())
-        }
-    }
-}
-
 // Adds the transitions of a component.
 fn add_component<'a, 't>(
+    alloc: Global,
     written: &mut Vec<Written<'a, 't>>,
     owner: Owner<'a, 't>,
     buses: &'a [Bus],
@@ -122,16 +149,14 @@ fn add_component<'a, 't>(
         (λ g. flat_map (made_at g owner.entry.path.now buses.now) (numbered transitions.now))
         written.old.items written.new.items) }
 {
-    for (place, transition) in transitions.iter().enumerate() {
-        let ordinal = ordinal_of(place)?;
-        add_transition(written, owner, ordinal, buses, transition)?;
-    }
-    Ok(())
+    let names = bus_names(alloc, buses)?;
+    add_transitions(written, owner, &names, buses, transitions)
 }
 
 // Adds the transitions of a state, where it is a component.
 #[tactic(auto, using(crate::proofs::Adding::none_made, crate::proofs::Adding::state_made, crate::proofs::Adding::state_placed))]
 fn add_state<'a, 't>(
+    alloc: Global,
     written: &mut Vec<Written<'a, 't>>,
     tree: &'t Tree<'a>,
     node: u32,
@@ -154,7 +179,7 @@ fn add_state<'a, 't>(
         path,
         this: innermost(path),
     };
-    add_component(written, owner, buses_of(body), transitions_of(body))
+    add_component(alloc, written, owner, buses_of(body), transitions_of(body))
 }
 
 /// The transitions of all components, as they are written.
@@ -168,7 +193,7 @@ pub fn written_transitions<'a, 't>(
 {
     let mut written = Vec::new(alloc);
     for node in 0..tree.nodes() {
-        add_state(&mut written, tree, node)?;
+        add_state(alloc, &mut written, tree, node)?;
     }
     Ok(written)
 }
