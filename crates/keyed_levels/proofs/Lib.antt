@@ -1,0 +1,4 @@
+pub mod Lawful
+pub mod Pairs
+pub mod Places
+pub mod Stores

@@ -1,0 +1,4 @@
+pub mod Names
+pub mod Components
+pub mod Activity
+pub mod Told

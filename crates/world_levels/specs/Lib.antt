@@ -1,0 +1,6 @@
+pub mod Spelling
+pub mod Laws
+pub mod Order
+pub mod Growing
+pub mod Stored
+pub mod Spans

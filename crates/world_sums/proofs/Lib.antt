@@ -1,0 +1,7 @@
+pub mod WorldLemmas
+pub mod BitLemmas
+pub mod BaseLemmas
+pub mod SumLemmas
+pub mod TellLemmas
+pub mod CompareLemmas
+pub mod FarLemmas
