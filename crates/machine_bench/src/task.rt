@@ -1,0 +1,22 @@
+/// What is done with a text.
+#[derive(Clone, Copy)]
+pub enum Task {
+    /// It is read.
+    Read,
+    /// Its machine is made, and what it has is counted.
+    Count,
+    /// The same, and reading and making are measured.
+    Times,
+}
+
+impl Task {
+    /// The task that a word names.
+    pub fn from_word(word: &str) -> Option<Task> {
+        match word {
+            "read" => Some(Task::Read),
+            "count" => Some(Task::Count),
+            "times" => Some(Task::Times),
+            _ => None,
+        }
+    }
+}
