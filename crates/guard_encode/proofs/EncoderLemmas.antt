@@ -1,0 +1,66 @@
+-- The parts of an encoder.
+use Rattle.std.proofs.Common.{◌≡◌, ℕ, zero, suc, ◌<◌, ◌∷◌, get_or, Bool, List, [], fold, length, Some, sym, ap, ◌∙◌, subst, slice_get, arith}
+use Rattle.std.proofs.lemmas.List.{take_all}
+use Rattle.rsml_syntax.specs.declared.syntax.Spec.{Spec}
+use Rattle.rsml_meaning.specs.Instances.{states}
+use Rattle.rsml_ground.specs.Truths.{Grounded, is_active, truths_in, with_next}
+use Rattle.bdd_core.specs.Diagram.{Diagram}
+use Rattle.bdd_core.specs.Calls as arena
+use Rattle.world_levels.specs.Spelling.{WorldLevels}
+use Rattle.world_sums.specs.Tells as exact
+use Rattle.phrase_diagrams.specs.Diagrams.{truths_at}
+use Rattle.elaborate.specs.Machine.{GroundMachine}
+use Rattle.keyed_levels.specs.Keyed.{KeyedWorlds, AreKeyed, Lawful, Tells, world_at}
+use Rattle.keyed_levels.proofs.Lawful.{tells_on}
+use Rattle.guard_encode.specs.Phrases.{AreActive, ArePhrases}
+use Rattle.guard_encode.specs.Encoding.{AreEncoded, AreStored, Encoding}
+use Rattle.guard_encode.specs.Encoding.{Tells as EncodingTells}
+use Rattle.std.proofs.lemmas.Option.{same_Some}
+use Rattle.state_tree.proofs.Lists.{within_get}
+use Rattle.guard_encode.proofs.Telling.{exact_tells}
+
+-- exact diagrams of the states of the specification
+pub are_active : (d : Diagram) (k : KeyedWorlds) (levels : WorldLevels) (s : Spec) (active : List ℕ) → s ≡ levels.spec → levels.spec ≡ k.base.spec → levels.slots ≡ k.slots → length active ≡ length (states s)
+    → ((node f : ℕ) → slice_get active node ≡ Some f → exact.Tells d levels (λ w. is_active s w node) f) → AreActive d k active
+are_active d k levels s active own spec slots many each = record {
+  many = many ∙ ap (λ (t : Spec). length (states t)) (own ∙ spec);
+  each = λ node f at. subst (λ (t : Spec). Tells d k (λ w. is_active t w node) f) (own ∙ spec) (exact_tells d k levels (λ w. is_active s w node) f spec slots (each node f at));
+}
+
+-- they still are, in an arena that has grown
+pub active_stay : (old new : Diagram) (k : KeyedWorlds) (active : List ℕ) → arena.Keeps old new → AreActive old k active → AreActive new k active
+active_stay old new k active keeps are = record {
+  many = are.many;
+  each = λ node f at. tells_on old new k (λ w. is_active k.base.spec w node) f keeps (are.each node f at);
+}
+
+-- the parts of an encoder, over levels of its machine's phrases
+pub are_encoded : (m : GroundMachine) (k : KeyedWorlds) (d : Diagram) (active phrases : List ℕ) → k.base ≡ m.base → AreKeyed k → d.levels ≡ length k.slots
+    → AreActive d k active → ArePhrases d k (length k.base.phrases) phrases → AreEncoded m k d active phrases
+are_encoded m k d active phrases same keyed room are_active are_phrases = record {
+  same = same;
+  stored = record {
+    levels = subst (λ (g : Grounded). AreKeyed (record k { base = g })) same keyed;
+    same_levels = room;
+    active_are = subst (λ (g : Grounded). AreActive d (record k { base = g }) active) same are_active;
+    phrases_are = subst (λ (g : Grounded). ArePhrases d (record k { base = g }) (length g.phrases) phrases) same are_phrases;
+  };
+}
+
+-- the diagrams of all phrases have their truths
+pub all_truths : (d : Diagram) (k : KeyedWorlds) (phrases : List ℕ) → ArePhrases d k (length k.base.phrases) phrases → (v : ℕ → Bool) → Lawful k v → truths_at d phrases v ≡ truths_in k.base (world_at k v)
+all_truths d k phrases are v lawful =
+    are.truths v lawful ∙ ap (λ ps. fold (with_next k.base (world_at k v)) [] ps) (take_all (length k.base.phrases) k.base.phrases (omega arith))
+
+get_at : (xs : List ℕ) (i x d : ℕ) → slice_get xs i ≡ Some x → get_or xs i d ≡ x
+get_at [] i x d h = absurd (let empty : ⊥ = cc in empty)
+get_at (y ∷ ys) zero x d h = same_Some y x h
+get_at (y ∷ ys) (suc i) x d h = get_at ys i x d h
+
+-- the diagram of a state
+pub active_at : (e : Encoding) (active phrases : List ℕ) (node r : ℕ) → AreStored e active phrases → node < length (states e.machine.base.spec) → r ≡ get_or active node r
+    → EncodingTells e (λ w. is_active e.machine.base.spec w node) r
+active_at e active phrases node r are less is =
+    let within : node < length active = omega (arith, less, are.active_are.many) in
+    let f = within_get active node within in
+    subst (EncodingTells e (λ w. is_active e.machine.base.spec w node)) (sym (is ∙ get_at active node f.0 r f.1)) (are.active_are.each node f.0 f.1)

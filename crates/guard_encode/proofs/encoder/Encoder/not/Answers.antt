@@ -1,0 +1,18 @@
+use Rattle.std.proofs.Common.{not, sym, subst}
+use Rattle.std.proofs.lemmas.Result.{IfOk-weaker}
+use Rattle.bdd_core.specs.Diagram.{meaning}
+use Rattle.bdd_core.specs.Calls.{Represents}
+use Rattle.guard_encode.specs.Encoding.{Encoding, Tells}
+use Rattle.guard_encode.proofs.StepLemmas.{encoded_stay, not_tells}
+use Rattle.guard_encode.proofs.encoder.Encoder.not.Goals as goal
+
+pub invariant_of-self : goal.invariant_of-self
+invariant_of-self c =
+    encoded_stay c.self.inside.machine.now c.self.inside.levels c.self.inside.arena c.not.new.self c.self.inside.active.items c.self.inside.phrases.items c.not.ensures.keeps c.self.invariant
+
+pub returns-clause-answer : goal.returns-clause-answer
+returns-clause-answer c =
+    let old = c.self.inside.arena in
+    IfOk-weaker c.not.result (Represents c.not.new.self (λ v. not (meaning old c.args.f v))) _
+    (λ r h truth told. not_tells c.self.inside.machine.now c.self.inside.levels old c.not.new.self c.args.f r truth h (subst (λ (e : Encoding). Tells e truth c.args.f) (sym c.self.view_is) told))
+    c.not.ensures.answer

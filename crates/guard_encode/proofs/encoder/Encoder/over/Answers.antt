@@ -1,0 +1,24 @@
+use Rattle.std.proofs.Common.{◌≡◌, length, List, sym, ap, ◌∙◌, subst}
+use Rattle.rsml_ground.specs.Truths.{Grounded}
+use Rattle.spelled_numbers.specs.declared.slot.Slot.{Slot}
+use Rattle.guard_encode.specs.Phrases.{AreActive}
+use Rattle.guard_encode.proofs.EncoderLemmas.{are_active, active_stay, are_encoded}
+use Rattle.guard_encode.proofs.encoder.Encoder.over.Goals as goal
+
+pub all_phrases-requires-clause-active : goal.all_phrases-requires-clause-active
+all_phrases-requires-clause-active c =
+    let own : c.tree.result.now ≡ c.layout-2.result.now.spec = c.tree.ensures ∙ ap (λ (g : Grounded). g.spec) (sym c.requires) ∙ sym c.layout-2.ensures.spec in
+    subst (AreActive c.active_states.new.arena c.args.levels) (sym c.as_slice.ensures.value)
+    (are_active c.active_states.new.arena c.args.levels c.layout-2.result.now c.tree.result.now c.in_ok-active.active.items own c.layout-2.ensures.spec c.layout-2.ensures.slots
+    c.in_ok-active.ensures.many c.in_ok-active.ensures.each)
+
+pub invariant_of-result : goal.invariant_of-result
+invariant_of-result c =
+    let own : c.tree.result.now ≡ c.layout-2.result.now.spec = c.tree.ensures ∙ ap (λ (g : Grounded). g.spec) (sym c.requires) ∙ sym c.layout-2.ensures.spec in
+    let active : AreActive c.active_states.new.arena c.args.levels c.in_ok-active.active.items =
+    are_active c.active_states.new.arena c.args.levels c.layout-2.result.now c.tree.result.now c.in_ok-active.active.items own c.layout-2.ensures.spec c.layout-2.ensures.slots
+    c.in_ok-active.ensures.many c.in_ok-active.ensures.each in
+    are_encoded c.args.machine.now c.args.levels c.all_phrases.new.arena c.in_ok-active.active.items c.in_ok-phrases.phrases.items c.requires c.keys.ensures.law
+    (c.in_ok-phrases.ensures.keeps.same_levels ∙ c.in_ok-active.ensures.keeps.same_levels ∙ c.in_ok-arena.ensures.levels ∙ c.levels-2.ensures ∙ ap (λ (xs : List Slot). length xs) c.layout.ensures.slots)
+    (active_stay c.active_states.new.arena c.all_phrases.new.arena c.args.levels c.in_ok-active.active.items c.in_ok-phrases.ensures.keeps active)
+    c.in_ok-phrases.ensures.answer

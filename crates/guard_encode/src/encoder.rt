@@ -1,0 +1,112 @@
+ghost use Rattle.std.specs.Prelude.{◌≡◌, ◌<◌, IfOk, length, slice_get};
+ghost use Rattle.rsml_meaning.specs.Instances.{states};
+ghost use Rattle.rsml_ground.specs.Rests.{GuardFits};
+ghost use Rattle.rsml_ground.specs.Truths.{guard_truth, is_active, truths_in};
+ghost use Rattle.guard_encode.specs.Encoding.{Keeps, Tells};
+
+use crate::order::order;
+use crate::phrases::all_phrases;
+use bdd_core::{Arena, Ref};
+use elaborate::Machine;
+use keyed_levels::KeyedLevels;
+use linear_bits::SumTable;
+use rsml_base::NoMemory;
+use rsml_ground::GroundGuard;
+use state_diagrams::active_states;
+use std::alloc::Global;
+use std::marker::Model;
+
+/// The diagrams of a machine: functions of levels that spell its worlds, all in one arena. Contracts see it as the machine, the
+/// slots of the levels, the levels that stand for comparisons, and the nodes of the arena.
+#[derive(Drop)]
+pub struct Encoder<'m, 'a> {
+    pub(crate) machine: &'m Machine<'a>,
+    pub(crate) levels: KeyedLevels<'m, 'a>,
+    pub(crate) arena: Arena,
+    pub(crate) sums: SumTable,
+    pub(crate) active: Vec<Ref>,
+    pub(crate) phrases: Vec<Ref>,
+}
+
+impl<'m, 'a> Model for Encoder<'m, 'a> {
+    ghost use Rattle.std.specs.Prelude.{◌≡◌};
+    ghost use Rattle.std.specs.Coded.{codes};
+    ghost use Rattle.rsml_syntax.specs.contracts.syntax.Body as bodies;
+    ghost use Rattle.guard_encode.specs.Encoding.{Encoding, encoding_of, AreEncoded};
+
+    ghost Value = { Encoding };
+
+    ghost coded = { Prim.hlevel (codes, bodies.the_row.coded) };
+
+    ghost view = { λ e. encoding_of e.machine.now e.levels e.arena };
+
+    ghost invariant = { λ e. AreEncoded e.machine.now e.levels e.arena e.active.items e.phrases.items };
+}
+
+impl<'m, 'a> Encoder<'m, 'a> {
+    /// The diagrams of the states and phrases of a machine.
+    pub fn new(alloc: Global, machine: &'m Machine<'a>) -> Result<Encoder<'m, 'a>, NoMemory>
+        ensures { IfOk result (λ e. e.machine ≡ machine.now) }
+    {
+        let order = order(alloc, machine)?;
+        let levels = KeyedLevels::new(alloc, machine.macros(), machine.worlds(), order.as_slice())?;
+        Encoder::over(alloc, machine, levels)
+    }
+
+    /// The same, over these levels.
+    fn over(
+        alloc: Global,
+        machine: &'m Machine<'a>,
+        levels: KeyedLevels<'m, 'a>,
+    ) -> Result<Encoder<'m, 'a>, NoMemory>
+        requires { levels.base ≡ machine.now.base }
+        ensures { IfOk result (λ e. e.machine ≡ machine.now) }
+    {
+        machine.law();
+        let _ = levels.keys();
+        let mut arena = Arena::new(alloc, levels.layout().levels())?;
+        let mut sums = SumTable::new(alloc)?;
+        let active = active_states(
+            alloc,
+            &mut arena,
+            &mut sums,
+            levels.layout(),
+            machine.tree(),
+        )?;
+        let phrases = all_phrases(alloc, &mut arena, &mut sums, &levels, active.as_slice())?;
+        Ok(Encoder {
+            machine,
+            levels,
+            arena,
+            sums,
+            active,
+            phrases,
+        })
+    }
+
+    /// The machine.
+    pub fn machine(&self) -> &'m Machine<'a>
+        ensures { result.now ≡ self.now.machine }
+    {
+        let _ = &self.arena;
+        self.machine
+    }
+
+    /// Where a state is active.
+    pub fn active(&self, node: u32) -> Ref
+        requires { node < length (states self.now.machine.base.spec) }
+        ensures { Tells self.now (λ w. is_active self.now.machine.base.spec w node) result }
+    {
+        let _ = &self.arena;
+        self.active[node as usize]
+    }
+
+    /// Where a guard is true.
+    pub fn guard(&mut self, guard: &GroundGuard) -> Result<Ref, NoMemory>
+        requires { GuardFits (length self.old.machine.base.phrases) guard.now }
+        ensures keeps { Keeps self.old self.new }
+        ensures answer { IfOk result (Tells self.new (λ w. guard_truth (truths_in self.new.machine.base w) guard.now)) }
+    {
+        phrase_diagrams::guard(&mut self.arena, self.phrases.as_slice(), guard)
+    }
+}

@@ -1,0 +1,5 @@
+pub mod ExactLemmas
+pub mod ReadLemmas
+pub mod PartLemmas
+pub mod StepLemmas
+pub mod EndLemmas

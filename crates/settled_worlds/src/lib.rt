@@ -1,0 +1,16 @@
+//! Whether functions of levels are true in some world, where some levels stand for comparisons.
+#![tactic(auto)]
+
+mod comparisons;
+mod exact_keys;
+mod keys;
+mod next;
+mod one_key;
+mod parts;
+mod reading;
+mod settling;
+mod striking;
+mod sweeping;
+
+pub use exact_keys::ExactKeys;
+pub use settling::settle;

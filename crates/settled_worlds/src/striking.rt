@@ -1,0 +1,65 @@
+//! Keys struck off that a function does not depend on.
+ghost use Rattle.std.specs.Prelude.{◌≡◌, ◌<◌, ℕ, false, IfOk, length, slice_index_or};
+ghost use Rattle.bdd_core.specs.Diagram.{IsRef};
+ghost use Rattle.bdd_core.specs.Calls.{Ignores};
+ghost use Rattle.free_levels.specs.Keys.{AreKeys};
+ghost use Rattle.keyed_levels.specs.Keyed.{keys_of};
+ghost use Rattle.settled_worlds.specs.Steps.{AreStruck};
+
+use crate::one_key::key;
+use bdd_core::{Arena, Marks, Ref};
+use keyed_levels::KeyedLevels;
+use rsml_base::NoMemory;
+use std::alloc::Global;
+
+/// The levels, of so many, on which a function may depend.
+pub(crate) fn used_levels(
+    alloc: Global,
+    arena: &Arena,
+    count: u32,
+    f: Ref,
+) -> Result<Vec<bool>, NoMemory>
+    requires f_ref { IsRef arena.now f }
+    requires count { arena.now.levels ≡ count }
+    ensures { IfOk result (λ used. (level : ℕ) → slice_index_or used.items level false ≡ false
+        → Ignores arena.now f level) }
+{
+    let mut marks = Marks::new(alloc, arena)?;
+    let mut used = vec![in alloc; false; count as usize]?;
+    arena.mark_levels(f, &mut marks, &mut used);
+    Ok(used)
+}
+
+/// Whether a level is used.
+pub(crate) fn is_used(used: &[bool], level: u32) -> bool
+    ensures { result ≡ slice_index_or used.now level false }
+{
+    match used.get(level as usize) {
+        Some(is) => *is,
+        None => false,
+    }
+}
+
+/// Strikes off the keys whose levels are not used.
+pub(crate) fn strike(levels: &KeyedLevels<'_, '_>, used: &[bool], left: &mut Vec<bool>)
+    requires keys { AreKeys (keys_of levels.now) }
+    requires many { length left.old.items ≡ length levels.now.keyed }
+    ensures { AreStruck levels.now used.now left.old.items left.new.items }
+{
+    for place in 0..levels.keys().len() {
+        strike_key(levels, used, left, place);
+    }
+}
+
+/// Strikes off the key at a place, where its level is not used.
+fn strike_key(levels: &KeyedLevels<'_, '_>, used: &[bool], left: &mut Vec<bool>, place: usize)
+    requires keys { AreKeys (keys_of levels.now) }
+    requires many { length left.old.items ≡ length levels.now.keyed }
+    requires place { place < length levels.now.keyed }
+    ensures { AreStruck levels.now used.now left.old.items left.new.items }
+{
+    if !left[place] || is_used(used, key(levels, place).level) {
+        return;
+    }
+    left[place] = false;
+}
