@@ -77,5 +77,6 @@ false_in_all all each stay d k truth r are tells = (to, from)
     to never w is =
         let s = spelled_lawfully each stay k are w is in
         ap truth (sym s.spells) ∙ sym (tells.means s.values s.lawful) ∙ never s.values s.lawful
+
     from : ((w : World) → IsWorld k.base.spec w → truth w ≡ false) → (values : ℕ → Bool) → Lawful k values → meaning d r values ≡ false
     from never values lawful = tells.means values lawful ∙ never (world_at k values) (spell_worlds all k are values)

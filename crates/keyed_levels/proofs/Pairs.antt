@@ -66,11 +66,11 @@ index_last (x ∷ xs) k = index_last xs k
 pub paired_more : (levels phrases : List ℕ) (n : ℕ) (keyed new : List Keyed) (k : Keyed) → n < length levels → n < length phrases → length keyed ≡ n
     → k.level ≡ slice_index_or levels n 0 → k.phrase ≡ slice_index_or phrases n 0 → new ≡ keyed ++ (k ∷ []) → IsPaired levels phrases keyed → IsPaired levels phrases new
 paired_more levels phrases n keyed new k hl hp many level phrase push before = subst (IsPaired levels phrases) (sym push) (record {
-    few = omega (arith, long, hl, many);
-    few_phrases = omega (arith, long, hp, many);
-    level = λ i less. at (λ (x : Keyed). x.level) levels i less before.level level;
-    phrase = λ i less. at (λ (x : Keyed). x.phrase) phrases i less before.phrase phrase;
-  })
+  few = omega (arith, long, hl, many);
+  few_phrases = omega (arith, long, hp, many);
+  level = λ i less. at (λ (x : Keyed). x.level) levels i less before.level level;
+  phrase = λ i less. at (λ (x : Keyed). x.phrase) phrases i less before.phrase phrase;
+})
   where
     long : length (keyed ++ (k ∷ [])) ≡ length keyed + 1
     long = length-append keyed (k ∷ [])

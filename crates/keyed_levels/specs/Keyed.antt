@@ -38,10 +38,11 @@ key_at keyed place = slice_index_or keyed place no_key
 
 -- each level stands for its comparison, in the world that the values spell
 abbrev pub keys_of : KeyedWorlds → Keys
-keys_of k = record
-  { count = length k.keyed
-  ; level = λ i. (key_at k.keyed i).level
-  ; function = λ i values. comparison (world_at k values) (slice_get k.base.phrases (key_at k.keyed i).phrase) }
+keys_of k = record {
+  count = length k.keyed;
+  level = λ i. (key_at k.keyed i).level;
+  function = λ i values. comparison (world_at k values) (slice_get k.base.phrases (key_at k.keyed i).phrase);
+}
 
 -- Levels for the worlds of the specification. Each key has a free level of its own and a phrase that there is.
 pub record AreKeyed (k : KeyedWorlds) : Type 0 where

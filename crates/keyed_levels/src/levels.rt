@@ -54,7 +54,12 @@ impl<'m, 'a> KeyedLevels<'m, 'a> {
     }
 
     /// The free levels of a layout for comparisons, one after another.
-    fn with_layout(alloc: Global, macros: &'m Macros<'a>, layout: Layout<'m>, phrases: &[u32]) -> Result<KeyedLevels<'m, 'a>, NoMemory>
+    fn with_layout(
+        alloc: Global,
+        macros: &'m Macros<'a>,
+        layout: Layout<'m>,
+        phrases: &[u32],
+    ) -> Result<KeyedLevels<'m, 'a>, NoMemory>
         requires same { layout.spec ≡ macros.now.spec }
         requires phrases { All (λ p. p < length macros.now.phrases) phrases.now }
         ensures { IfOk result (λ k. k.base ≡ macros.now) }

@@ -17,7 +17,7 @@ pub compare-requires-clause-levels : goal.compare-requires-clause-levels
 compare-requires-clause-levels c =
     let l = c.args.layout.now in
     let is : c.as_slice.result.now ≡ sum_levels l false c.args.sum.now =
-        c.as_slice.ensures.value ∙ c.in_ok-push_sum.ensures ∙ ap (λ (ts : List Weighted). ts ++ sum_levels l false c.args.sum.now) c.new-levels.ensures.items in
+    c.as_slice.ensures.value ∙ c.in_ok-push_sum.ensures ∙ ap (λ (ts : List Weighted). ts ++ sum_levels l false c.args.sum.now) c.new-levels.ensures.items in
     subst (AreLevels c.args.arena.now) (sym is)
     (are_levels c.args.arena.now l.slots (sum_levels l false c.args.sum.now) c.requires.levels (terms_within l false c.args.sum.now.terms))
 
@@ -25,21 +25,21 @@ pub compare-requires-clause-small : goal.compare-requires-clause-small
 compare-requires-clause-small c =
     let l = c.args.layout.now in
     let is : c.as_slice.result.now ≡ sum_levels l false c.args.sum.now =
-        c.as_slice.ensures.value ∙ c.in_ok-push_sum.ensures ∙ ap (λ (ts : List Weighted). ts ++ sum_levels l false c.args.sum.now) c.new-levels.ensures.items in
+    c.as_slice.ensures.value ∙ c.in_ok-push_sum.ensures ∙ ap (λ (ts : List Weighted). ts ++ sum_levels l false c.args.sum.now) c.new-levels.ensures.items in
     omega (arith, ap total_weight is, terms_total l false c.args.sum.now.terms c.law.ensures.small, c.requires.sum.few)
 
 pub returns-clause-answer : goal.returns-clause-answer
 returns-clause-answer c =
     let l = c.args.layout.now in
     let is : c.as_slice.result.now ≡ sum_levels l false c.args.sum.now =
-        c.as_slice.ensures.value ∙ c.in_ok-push_sum.ensures ∙ ap (λ (ts : List Weighted). ts ++ sum_levels l false c.args.sum.now) c.new-levels.ensures.items in
+    c.as_slice.ensures.value ∙ c.in_ok-push_sum.ensures ∙ ap (λ (ts : List Weighted). ts ++ sum_levels l false c.args.sum.now) c.new-levels.ensures.items in
     let constant = to_z w64 (of_z w64 (to_z w64 (of_z w64 c.nearest.result) -ℤ to_z w64 (of_z w64 c.sum_base.result))) in
     let base : IsWithin 8000000000 (sum_base l.spec c.args.sum.now) = subst (IsWithin 8000000000) c.sum_base.ensures.number c.sum_base.ensures.small in
     let value : constant ≡ c.nearest.result -ℤ sum_base l.spec c.args.sum.now = omega (arith, ints, c.sum_base.ensures.number) in
     let number : to_z w64 (of_z w64 c.args.number) ≡ c.args.number =
-        let fits : FitsSigned w64 c.args.number = search rules in to_z-of_z w64 c.args.number fits in
+    let fits : FitsSigned w64 c.args.number = search rules in to_z-of_z w64 c.args.number fits in
     let alike : (r : Relation) (y : ℤ) → IsWithin 100000000000 y → relations.compare r y c.nearest.result ≡ relations.compare r y c.args.number =
-        λ r y near. c.nearest.ensures.same r y near ∙ ap (relations.compare r y) number in
+    λ r y near. c.nearest.ensures.same r y near ∙ ap (relations.compare r y) number in
     IfOk-weaker c.compare.result (Represents c.compare.new.arena (λ v. holds c.comparison_of.result (signed_sum v c.as_slice.result.now) constant)) _
     (λ r h. compare_number_tells c.compare.new.arena l c.args.sum.now c.args.relation c.comparison_of.result c.args.number c.nearest.result constant c.as_slice.result.now r
     c.law.ensures.small c.requires.sum base alike value is c.comparison_of.ensures h)
