@@ -2,8 +2,8 @@
 # Micro-steps of whole reactions to events: bench/steps.sh [TURNS]
 # For each machine a line: the nanoseconds of an event, in step_bench and in plain Rust over the same machine and messages, and
 # their ratio. The machines are a lamp, a display of thirty aircraft, a plant of 64 equal units, each of which is asked at each
-# event, and a great one of 4,000 states and 8,000 transitions of which each event of the file concerns four, as in the lamp. Then
-# the cost of an event in the great machine, against that in the lamp. Each time is the least of TURNS (100) turns over 2,000
+# event, and a great one of 4,000 states and 8,000 transitions of which each event of the file concerns two. Then the cost of
+# an event in the great machine, against that in the lamp. Each time is the least of TURNS (100) turns over 2,000
 # events that are drawn by a fixed linear congruential sequence.
 # It ends with status 1 where the digests of both differ: of all that is taken and sent, and of the worlds after the events.
 set -eu
@@ -47,8 +47,8 @@ state Plant all {
 TEXT
 draw plant 'k = below(64); print "Load[" k + 1 "] Depth=" below(1000)'
 
-# 992 units of four states with eight transitions each, of which four are on the event of the unit, those of a lamp; and one
-# component of 30 states with 64 transitions on an event that does not come.
+# 992 units of four states with eight transitions each, of which two are on the event of the unit; and one component of 30 states
+# with 64 transitions on an event that does not come.
 awk 'BEGIN {
   print "specification Great; range Level 0 .. 9; event Idle;"
   for (i = 1; i <= 16; i++) print "input Depth" i " [62] : Level = 0; event Go" i " [62]; receive Load" i " [62] (Depth" i "[this]) raise Go" i "[this];"
@@ -56,9 +56,8 @@ awk 'BEGIN {
   for (i = 1; i <= 16; i++) {
     high = "when { Depth" i "[this] >= 5 | T; };"; low = "when { Depth" i "[this] >= 5 | F; };"
     print "array Unit" i " [62] one { default Off; state Off; state On; state Spare;"
-    print "move Off -> On on Go" i "[this] " high " stay Off on Go" i "[this] " low
-    print "move On -> Off on Go" i "[this] " low " stay On on Go" i "[this] " high
-    print "move Off -> Spare on Idle " high " move On -> Spare on Idle " high
+    print "move Off -> On on Go" i "[this] " high " move On -> Off on Go" i "[this] " low
+    print "move Off -> Spare on Idle " high " stay Off on Idle " low " move On -> Spare on Idle " high " stay On on Idle " low
     print "move Spare -> Off on Idle " high " stay Spare on Idle " low " }"
   }
   print "state Rest one { default S1;"
