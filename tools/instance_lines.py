@@ -20,7 +20,7 @@ class Specification:
     """The instances of a specification, each as a path: a tuple of names with indices, 0 for a plain one."""
 
     def __init__(self, text):
-        self.tokens, self.at = TOKEN.findall(text), 0
+        self.tokens, self.at = TOKEN.findall(re.sub(r"#.*", "", text)), 0
         self.states, self.components, self.default = [], {}, {}
         self.inputs, self.events, self.previous, self.moves = [], [], set(), {}
         for place, token in enumerate(self.tokens):

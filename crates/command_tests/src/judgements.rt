@@ -7,7 +7,6 @@ fn told(judgement: &Judgement) -> (&'static str, &[u8]) {
         Judgement::TooLong => ("too long", &[]),
         Judgement::Unread { line } => ("unread", line.as_slice()),
         Judgement::Broken { line } => ("broken", line.as_slice()),
-        Judgement::NotBuilt => ("not built", &[]),
         Judgement::Refused { report } => ("refused", report.as_slice()),
         Judgement::Certified { report, .. } => ("certified", report.as_slice()),
     }
@@ -21,7 +20,11 @@ const TEXTS: [(&str, &str, &str); 5] = [
         "broken",
         "fault S1 E\n",
     ),
-    ("specification A; state A all { state B; }", "not built", ""),
+    (
+        "specification A; state A all { state B; }",
+        "certified",
+        "specification A\ngroups 0\ncertified\n",
+    ),
     (
         "specification A; enumeration Switch { Down, Up } input X : Switch = Down; event E; \
          receive R (X) raise E; state A one { default B; state B; stay B on E when { X = Up | T; }; }",

@@ -116,8 +116,14 @@ fn counts_limits_exactly(rt: HostRuntime) -> Result<(), Fail> {
     for (repeated, most, line) in LIMITS {
         let text = repeated.times(rt.alloc(), most)?;
         let (status, sink) = outcome(rt.alloc(), &["check", "spec"], text.as_bytes())?;
-        assert_eq!(rt; sink.bytes(), b"fault not built\n".as_slice(), "{line}");
-        assert_eq!(rt; status, Status::NotBuilt, "{line}");
+        assert!(rt;
+            sink.bytes().starts_with(b"specification A\ngroups "),
+            "{line}"
+        );
+        assert!(rt;
+            status == Status::Done || status == Status::Refused,
+            "{line}"
+        );
         let text = repeated.times(rt.alloc(), most.saturating_add(1))?;
         let (status, sink) = outcome(rt.alloc(), &["check", "spec"], text.as_bytes())?;
         assert_eq!(rt; sink.bytes(), line.as_bytes(), "{line}");

@@ -39,7 +39,7 @@ const LAMPS: [(&str, Status, &str); 4] = [
 ];
 
 #[test]
-fn reports_on_flat_specifications(rt: HostRuntime) -> Result<(), Fail> {
+fn reports_on_the_lamp(rt: HostRuntime) -> Result<(), Fail> {
     for (end, wanted, report) in LAMPS {
         let mut text = String::from_str(rt.alloc(), LAMP)?;
         text.push_str(end)?;
@@ -101,17 +101,35 @@ fn certifies_a_basic_state(rt: HostRuntime) -> Result<(), Fail> {
     Ok(())
 }
 
-#[test]
-fn says_what_is_not_built(rt: HostRuntime) -> Result<(), Fail> {
-    let texts = [
+/// Specifications with parallel states, arrays and raised events, how `check` ends on each, and what it writes.
+const WHOLE: [(&str, Status, &str); 3] = [
+    (
         "specification A; state A all { state B; }",
+        Status::Done,
+        "specification A\ngroups 0\ncertified\n",
+    ),
+    (
         "specification A; constant K = 1; event E; event G [2]; state A one { default B; \
          state B; stay B on E when always raise G[1], G[K]; }",
-    ];
-    for text in texts {
+        Status::Done,
+        "specification A\ngroups 1\ncertified\n",
+    ),
+    (
+        "specification A; range N 0 .. 9; input X : N = 0; input Y : N = 0; event E; \
+         receive R (X, Y) raise E; state A one { default B; state B; \
+         stay B on E when { X + Y < 12 | T; }; stay B on E when { X + Y > 10 | T; }; }",
+        Status::Refused,
+        "specification A\ngroups 1\nchain E 1\ntwo A.B on E\n  X = 2 | T\n  Y = 9 | T\n  \
+         enabled A 1 stay B\n  enabled A 2 stay B\n  confirmed\nrefused 1\n",
+    ),
+];
+
+#[test]
+fn reports_on_the_whole_language(rt: HostRuntime) -> Result<(), Fail> {
+    for (text, wanted, report) in WHOLE {
         let (status, sink) = outcome(rt.alloc(), &["check", "spec"], text.as_bytes())?;
-        assert_eq!(rt; status, Status::NotBuilt, "{text}");
-        assert_eq!(rt; sink.bytes(), b"fault not built\n".as_slice(), "{text}");
+        assert_eq!(rt; sink.bytes(), report.as_bytes(), "{text}");
+        assert_eq!(rt; status, wanted, "{text}");
     }
     Ok(())
 }

@@ -1,7 +1,8 @@
 -- A reader of the lines of a file, and when it fits what the file holds.
-use Rattle.std.specs.Prelude.{◌≡◌, ◌≢◌, ℕ, ◌+◌, ◌≤◌, ◌⊎◌, List, [], length, take, drop, find, min, Option, Some, None, IfSome, is_some, IsTrue, if◌then◌else◌, ◌==◌, nat_lt, take_while}
+use Rattle.std.specs.Prelude.{◌≡◌, ◌≢◌, ℕ, ◌+◌, ◌<◌, ◌≤◌, ◌⊎◌, List, [], length, take, drop, find, min, Option, Some, None, IfSome, is_some, IsTrue, if◌then◌else◌, ◌==◌, nat_lt, take_while}
 use Rattle.rsml_meaning.specs.EventLines.{Bytes}
 use Rattle.rsml_meaning.specs.EventFiles.{Line, lines_of, end_of, without_return, lines_before, Limits, program_limits, is_long, is_cut}
+use Rattle.event_file.specs.Fronts.{width}
 use Rattle.event_file.specs.declared.limits.Limits.{Limits as GivenLimits}
 use Rattle.event_file.specs.declared.next.Next.{Next}
 use Rattle.event_file.specs.declared.next.Next.TheVariants as next
@@ -61,6 +62,10 @@ new_reading limits = record { limits = limits; at = 0; held = []; number = 0; li
 -- how many bytes of the file it took
 abbrev pub taken : Reading → ℕ
 taken r = r.at + length r.held
+
+-- it holds a whole line, which is not too long
+abbrev pub HoldsLine : Reading → Type 0
+HoldsLine r = (width r.held < length r.held) × (width r.held ≤ r.limits.line)
 
 -- one more for a line that is too long
 abbrev pub long_lines : Option Next → ℕ

@@ -1,13 +1,13 @@
-ghost use Rattle.std.specs.Prelude.{◌≡◌, ◌≢◌, ℕ, ◌+◌, ◌<◌, ◌≤◌, List, Ok, Some, None, length, IfOk, IfSome, OnErr};
+ghost use Rattle.std.specs.Prelude.{◌≡◌, ◌≢◌, ◌↔◌, ℕ, ◌+◌, ◌<◌, ◌≤◌, List, Ok, Some, None, true, length, IfOk, IfSome, OnErr};
 ghost use Rattle.rsml_io.specs.Counts.{Rose};
 ghost use Rattle.event_file.specs.Fronts.{HasNoEnd, IsFront};
-ghost use Rattle.event_file.specs.Reading.{limits_of, IsAllowed, new_reading, taken, Fits, Answers};
+ghost use Rattle.event_file.specs.Reading.{limits_of, IsAllowed, new_reading, taken, HoldsLine, Fits, Answers};
 ghost use Rattle.event_file.specs.declared.front.Front.TheVariants as front;
 ghost use Rattle.event_file.specs.declared.next.Next.TheVariants as next;
 ghost use Rattle.event_file.specs.helpers.Windows.{Holds};
 ghost use Rattle.event_file.specs.helpers.Turns.{settle, give, count_long};
 
-use crate::front::Front;
+use crate::front::{Front, front_of};
 use crate::limits::Limits;
 use crate::line_buffer::LineBuffer;
 use crate::next::Next;
@@ -79,6 +79,16 @@ impl LineReader {
         ensures { result ≡ self.now.number }
     {
         self.number
+    }
+
+    /// Whether a whole line is held that is not too long, so that `next` reads nothing.
+    pub fn holds_line(&self) -> bool
+        ensures { (result ≡ true) ↔ HoldsLine self.now }
+    {
+        matches!(
+            front_of(self.buffer.held(), self.limits.line),
+            Front::Whole(_)
+        )
     }
 
     /// Reads on until it is told what the first line is that is held, or the file ends.

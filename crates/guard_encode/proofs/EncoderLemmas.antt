@@ -1,6 +1,6 @@
 -- The parts of an encoder.
-use Rattle.std.proofs.Common.{◌≡◌, ℕ, zero, suc, ◌<◌, ◌∷◌, get_or, Bool, List, [], fold, length, Some, sym, ap, ◌∙◌, subst, slice_get, arith}
-use Rattle.std.proofs.lemmas.List.{take_all}
+use Rattle.std.proofs.Common.{◌≡◌, ℕ, zero, suc, ◌<◌, ◌∷◌, get_or, Bool, List, [], fold, length, replicate, Option, None, Some, sym, ap, ◌∙◌, subst, slice_get, arith}
+use Rattle.std.proofs.lemmas.List.{length-replicate, take_all}
 use Rattle.rsml_syntax.specs.declared.syntax.Spec.{Spec}
 use Rattle.rsml_meaning.specs.Instances.{states}
 use Rattle.rsml_ground.specs.Truths.{Grounded, is_active, truths_in, with_next}
@@ -12,8 +12,9 @@ use Rattle.phrase_diagrams.specs.Diagrams.{truths_at}
 use Rattle.elaborate.specs.Machine.{GroundMachine}
 use Rattle.keyed_levels.specs.Keyed.{KeyedWorlds, AreKeyed, Lawful, Tells, world_at}
 use Rattle.keyed_levels.proofs.Lawful.{tells_on}
+use Rattle.settled_worlds.specs.Settled.{AreExact}
 use Rattle.guard_encode.specs.Phrases.{AreActive, ArePhrases}
-use Rattle.guard_encode.specs.Encoding.{AreEncoded, AreStored, Encoding}
+use Rattle.guard_encode.specs.Encoding.{AreEncoded, AreStored, Encoding, Made}
 use Rattle.guard_encode.specs.Encoding.{Tells as EncodingTells}
 use Rattle.std.proofs.lemmas.Option.{same_Some}
 use Rattle.state_tree.proofs.Lists.{within_get}
@@ -34,16 +35,29 @@ active_stay old new k active keeps are = record {
   each = λ node f at. tells_on old new k (λ w. is_active k.base.spec w node) f keeps (are.each node f at);
 }
 
+not_made : (n i f : ℕ) → slice_get (replicate {A = Option ℕ} n None) i ≡ Some (Some f) → ⊥
+not_made zero i f h = cc
+not_made (suc n) zero f h = cc
+not_made (suc n) (suc i) f h = not_made n i f h
+
+-- where none is made, each that is made is exact
+pub none_exact : (d : Diagram) (k : KeyedWorlds) (n : ℕ) (exact : List (Option ℕ)) → n ≡ length k.keyed → exact ≡ replicate n None → AreExact d k exact
+none_exact d k n exact many is = record {
+  many = ap (λ (xs : List (Option ℕ)). length xs) is ∙ length-replicate n None ∙ many;
+  each = λ i f at. absurd (not_made n i f (ap (λ (xs : List (Option ℕ)). slice_get xs i) (sym is) ∙ at));
+}
+
 -- the parts of an encoder, over levels of its machine's phrases
-pub are_encoded : (m : GroundMachine) (k : KeyedWorlds) (d : Diagram) (active phrases : List ℕ) → k.base ≡ m.base → AreKeyed k → d.levels ≡ length k.slots
-    → AreActive d k active → ArePhrases d k (length k.base.phrases) phrases → AreEncoded m k d active phrases
-are_encoded m k d active phrases same keyed room are_active are_phrases = record {
+pub are_encoded : (m : GroundMachine) (k : KeyedWorlds) (d : Diagram) (made : Made) → k.base ≡ m.base → AreKeyed k → d.levels ≡ length k.slots
+    → AreActive d k made.active → ArePhrases d k (length k.base.phrases) made.phrases → AreExact d k made.exact → AreEncoded m k d made
+are_encoded m k d made same keyed room are_active are_phrases are_exact = record {
   same = same;
   stored = record {
     levels = subst (λ (g : Grounded). AreKeyed (record k { base = g })) same keyed;
     same_levels = room;
-    active_are = subst (λ (g : Grounded). AreActive d (record k { base = g }) active) same are_active;
-    phrases_are = subst (λ (g : Grounded). ArePhrases d (record k { base = g }) (length g.phrases) phrases) same are_phrases;
+    active_are = subst (λ (g : Grounded). AreActive d (record k { base = g }) made.active) same are_active;
+    phrases_are = subst (λ (g : Grounded). ArePhrases d (record k { base = g }) (length g.phrases) made.phrases) same are_phrases;
+    exact_are = subst (λ (g : Grounded). AreExact d (record k { base = g }) made.exact) same are_exact;
   };
 }
 
@@ -58,9 +72,9 @@ get_at (y ∷ ys) zero x d h = same_Some y x h
 get_at (y ∷ ys) (suc i) x d h = get_at ys i x d h
 
 -- the diagram of a state
-pub active_at : (e : Encoding) (active phrases : List ℕ) (node r : ℕ) → AreStored e active phrases → node < length (states e.machine.base.spec) → r ≡ get_or active node r
+pub active_at : (e : Encoding) (made : Made) (node r : ℕ) → AreStored e made → node < length (states e.machine.base.spec) → r ≡ get_or made.active node r
     → EncodingTells e (λ w. is_active e.machine.base.spec w node) r
-active_at e active phrases node r are less is =
-    let within : node < length active = omega (arith, less, are.active_are.many) in
-    let f = within_get active node within in
-    subst (EncodingTells e (λ w. is_active e.machine.base.spec w node)) (sym (is ∙ get_at active node f.0 r f.1)) (are.active_are.each node f.0 f.1)
+active_at e made node r are less is =
+    let within : node < length made.active = omega (arith, less, are.active_are.many) in
+    let f = within_get made.active node within in
+    subst (EncodingTells e (λ w. is_active e.machine.base.spec w node)) (sym (is ∙ get_at made.active node f.0 r f.1)) (are.active_are.each node f.0 f.1)

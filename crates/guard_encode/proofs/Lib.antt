@@ -4,3 +4,7 @@ pub mod NextLemmas
 pub mod PhraseLemmas
 pub mod EncoderLemmas
 pub mod StepLemmas
+pub mod DecidedLemmas
+pub mod ConditionLemmas
+pub mod MemberLemmas
+pub mod CellLemmas

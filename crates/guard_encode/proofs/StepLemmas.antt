@@ -1,5 +1,5 @@
 -- An encoder whose arena has grown, and what its calls tell.
-use Rattle.std.proofs.Common.{◌≡◌, ℕ, ◌+◌, ◌<◌, Bool, ◌&&◌, ◌||◌, not, List, length, take, get_or, sym, ap, ◌∙◌, subst}
+use Rattle.std.proofs.Common.{◌≡◌, ℕ, ◌+◌, ◌<◌, Bool, ◌&&◌, ◌||◌, not, List, length, take, get_or, Option, sym, ap, ◌∙◌, subst}
 use Rattle.std.specs.List.{list_any}
 use Rattle.std.proofs.lemmas.List.Folds.{list_any_more}
 use Rattle.rsml_syntax.specs.declared.world.World.{World}
@@ -17,7 +17,9 @@ use Rattle.keyed_levels.specs.Keyed as keyed
 use Rattle.bdd_core.proofs.StepLemmas.{keeps_trans}
 use Rattle.keyed_levels.proofs.Lawful.{tells_on}
 use Rattle.guard_encode.specs.Phrases.{ArePhrases}
-use Rattle.guard_encode.specs.Encoding.{AreEncoded, Encoding, Keeps, Tells, encoding_of, worlds_of}
+use Rattle.settled_worlds.specs.Settled.{AreExact, IsSettled}
+use Rattle.settled_worlds.proofs.ExactLemmas.{exact_on}
+use Rattle.guard_encode.specs.Encoding.{AreEncoded, Encoding, Keeps, Made, Tells, encoding_of, worlds_of}
 use Rattle.guard_encode.proofs.Telling.{exact_tells, truths_stay, refs_stay}
 use Rattle.guard_encode.proofs.EncoderLemmas.{active_stay, all_truths}
 
@@ -28,17 +30,31 @@ phrases_stay old new k n diagrams keeps are = record {
   truths = λ v lawful. truths_stay old new diagrams v keeps are.refs ∙ are.truths v lawful;
 }
 
--- the parts of an encoder whose arena has grown
-pub encoded_stay : (m : GroundMachine) (k : KeyedWorlds) (old new : Diagram) (active phrases : List ℕ) → arena.Keeps old new → AreEncoded m k old active phrases → AreEncoded m k new active phrases
-encoded_stay m k old new active phrases keeps are = record {
+-- the parts of an encoder whose arena has grown, with these exact diagrams
+pub settled_stay : (m : GroundMachine) (k : KeyedWorlds) (old new : Diagram) (made : Made) (exact : List (Option ℕ)) → arena.Keeps old new → AreExact new k exact → AreEncoded m k old made
+    → AreEncoded m k new (record made { exact = exact })
+settled_stay m k old new made exact keeps are_exact are = record {
   same = are.same;
   stored = record {
     levels = are.stored.levels;
     same_levels = keeps.same_levels ∙ are.stored.same_levels;
-    active_are = active_stay old new (worlds_of (encoding_of m k old)) active keeps are.stored.active_are;
-    phrases_are = phrases_stay old new (worlds_of (encoding_of m k old)) (length m.base.phrases) phrases keeps are.stored.phrases_are;
+    active_are = active_stay old new (worlds_of (encoding_of m k old)) made.active keeps are.stored.active_are;
+    phrases_are = phrases_stay old new (worlds_of (encoding_of m k old)) (length m.base.phrases) made.phrases keeps are.stored.phrases_are;
+    exact_are = subst (λ (g : Grounded). AreExact new (record k { base = g }) exact) are.same are_exact;
   };
 }
+
+-- the exact diagrams of its own levels
+pub own_exact : (m : GroundMachine) (k : KeyedWorlds) (d : Diagram) (made : Made) → AreEncoded m k d made → AreExact d k made.exact
+own_exact m k d made are = subst (λ (g : Grounded). AreExact d (record k { base = g }) made.exact) (sym are.same) are.stored.exact_are
+
+-- what is settled over its own levels
+pub own_settled : (m : GroundMachine) (k : KeyedWorlds) (d new : Diagram) (made : Made) (f r : ℕ) → AreEncoded m k d made → IsSettled d new k f r → IsSettled d new (worlds_of (encoding_of m k d)) f r
+own_settled m k d new made f r are settled = subst (λ (g : Grounded). IsSettled d new (record k { base = g }) f r) are.same settled
+
+-- the parts of an encoder whose arena has grown
+pub encoded_stay : (m : GroundMachine) (k : KeyedWorlds) (old new : Diagram) (made : Made) → arena.Keeps old new → AreEncoded m k old made → AreEncoded m k new made
+encoded_stay m k old new made keeps are = settled_stay m k old new made made.exact keeps (exact_on old new k made.exact keeps (own_exact m k old made are)) are
 
 -- functions of functions
 pub not_tells : (m : GroundMachine) (k : KeyedWorlds) (old new : Diagram) (f r : ℕ) (truth : World → Bool) → Represents new (λ v. not (meaning old f v)) r
@@ -68,14 +84,21 @@ pub exact_told : (m : GroundMachine) (k : KeyedWorlds) (levels : WorldLevels) (d
 exact_told m k levels d r truth same spec slots h = exact_tells d (worlds_of (encoding_of m k d)) levels truth r (spec ∙ ap (λ (g : Grounded). g.spec) same) slots h
 
 -- a guard, by the diagrams of the phrases
-pub guard_tells : (m : GroundMachine) (k : KeyedWorlds) (old new : Diagram) (active phrases diagrams : List ℕ) (guard : GroundGuard) (r : ℕ) → AreEncoded m k old active phrases → diagrams ≡ phrases
+pub guard_tells : (m : GroundMachine) (k : KeyedWorlds) (old new : Diagram) (made : Made) (diagrams : List ℕ) (guard : GroundGuard) (r : ℕ) → AreEncoded m k old made → diagrams ≡ made.phrases
     → Represents new (λ v. guard_truth (truths_at old diagrams v) guard) r → Tells (encoding_of m k new) (λ w. guard_truth (truths_in m.base w) guard) r
-guard_tells m k old new active phrases diagrams guard r are is h = record {
+guard_tells m k old new made diagrams guard r are is h = record {
   is_ref = h.is_ref;
   means = λ v lawful.
       h.means v
       ∙ ap (λ ds. guard_truth (truths_at old ds v) guard) is
-      ∙ ap (λ ts. guard_truth ts guard) (all_truths old (worlds_of (encoding_of m k old)) phrases are.stored.phrases_are v lawful);
+      ∙ ap (λ ts. guard_truth ts guard) (all_truths old (worlds_of (encoding_of m k old)) made.phrases are.stored.phrases_are v lawful);
+}
+
+-- what is equally true is told
+pub told_as : (e : Encoding) (one other : World → Bool) (r : ℕ) → ((w : World) → one w ≡ other w) → Tells e one r → Tells e other r
+told_as e one other r same told = record {
+  is_ref = told.is_ref;
+  means = λ v lawful. told.means v lawful ∙ same (world_at (worlds_of e) v);
 }
 
 -- what an encoder told it still tells
@@ -84,7 +107,7 @@ told_on old new truth r keeps told =
     subst (λ (k : KeyedWorlds). keyed.Tells new.diagram k truth r) (λ i. record { base = (sym keeps.machine i).base; slots = sym keeps.slots i; keyed = sym keeps.keyed i })
     (tells_on old.diagram new.diagram (worlds_of old) truth r keeps.diagram told)
 
--- some of a list, one more: first is the encoder at the start, then old, and new after the last call
+-- one call after another
 pub keeps_on : (a b c : Encoding) → Keeps a b → Keeps b c → Keeps a c
 keeps_on a b c ab bc = record {
   machine = bc.machine ∙ ab.machine;
@@ -93,6 +116,7 @@ keeps_on a b c ab bc = record {
   diagram = keeps_trans a.diagram b.diagram c.diagram ab.diagram bc.diagram;
 }
 
+-- some of a list, one more
 pub some_told : (e : Encoding) (p : ℕ → World → Bool) (nodes : List ℕ) (n node r : ℕ) → n < length nodes → node ≡ get_or nodes n node
     → Tells e (λ w. list_any (λ k. p k w) (take n nodes) || p node w) r → Tells e (λ w. list_any (λ k. p k w) (take (n + 1) nodes)) r
 some_told e p nodes n node r less item told = record {

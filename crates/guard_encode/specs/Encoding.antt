@@ -1,13 +1,18 @@
 -- An encoder: a machine, the levels of its worlds, and an arena of functions of these.
-use Rattle.std.specs.Prelude.{◌≡◌, ℕ, Bool, List, length}
+use Rattle.std.specs.Prelude.{◌≡◌, ◌↔◌, ℕ, Bool, false, ◌&&◌, List, Option, length, slice_index_or, ℤ, pos, int_le}
 use Rattle.rsml_syntax.specs.declared.world.World.{World}
-use Rattle.bdd_core.specs.Diagram.{Diagram}
+use Rattle.bdd_core.specs.Diagram.{Diagram, IsRef, meaning}
 use Rattle.bdd_core.specs.Calls as arena
 use Rattle.spelled_numbers.specs.declared.slot.Slot.{Slot}
+use Rattle.rsml_meaning.specs.Worlds.{IsWorld}
+use Rattle.rsml_meaning.specs.Groups as meaning_of
+use Rattle.ground_groups.specs.declared.group.Member.{Member}
+use Rattle.ground_groups.specs.Groups.{MemberIs}
 use Rattle.elaborate.specs.Machine.{GroundMachine}
 use Rattle.keyed_levels.specs.declared.keyed.Keyed.{Keyed}
 use Rattle.keyed_levels.specs.Keyed.{KeyedWorlds, AreKeyed}
 use Rattle.keyed_levels.specs.Keyed as keyed
+use Rattle.settled_worlds.specs.Settled.{AreExact, DependsOn, cell_levels}
 use Rattle.guard_encode.specs.Phrases.{AreActive, ArePhrases}
 
 -- A machine, the slots of the levels, the levels that stand for comparisons, and the diagrams.
@@ -25,6 +30,22 @@ worlds_of e = record { base = e.machine.base; slots = e.slots; keyed = e.keyed }
 abbrev pub Tells : Encoding → (World → Bool) → ℕ → Type 0
 Tells e truth r = keyed.Tells e.diagram (worlds_of e) truth r
 
+-- r tells in which worlds this is true, and it is false everywhere exactly where this is true of none
+pub record TellsExactly (e : Encoding) (truth : World → Bool) (r : ℕ) : Type 0 where
+  pub told : Tells e truth r
+  pub none : ((values : ℕ → Bool) → meaning e.diagram r values ≡ false) ↔ ((w : World) → IsWorld e.machine.base.spec w → truth w ≡ false)
+
+-- whether the values of the levels give a cell at most this number
+abbrev pub is_at_most : KeyedWorlds → ℕ → ℤ → (ℕ → Bool) → Bool
+is_at_most k cell number values = int_le (slice_index_or (keyed.world_at k values).cells cell (pos 0)) number
+
+-- r tells of the levels of a cell in which worlds this is true: with each test of these levels alone it is true together somewhere
+-- exactly where this is true with the test at some lawful values
+pub record IsOfCell (e : Encoding) (cell : ℕ) (truth : World → Bool) (r : ℕ) : Type 0 where
+  pub is_ref : IsRef e.diagram r
+  pub same : (test : (ℕ → Bool) → Bool) → DependsOn (cell_levels (worlds_of e) cell) test → ((values : ℕ → Bool) → (meaning e.diagram r values && test values) ≡ false)
+      ↔ ((values : ℕ → Bool) → keyed.Lawful (worlds_of e) values → (truth (keyed.world_at (worlds_of e) values) && test values) ≡ false)
+
 -- The machine and the levels are the same, and each earlier diagram is what it was.
 pub record Keeps (old new : Encoding) : Type 0 where
   pub machine : new.machine ≡ old.machine
@@ -32,18 +53,29 @@ pub record Keeps (old new : Encoding) : Type 0 where
   pub keyed : new.keyed ≡ old.keyed
   pub diagram : arena.Keeps old.diagram new.diagram
 
--- What is stored: levels for the worlds of the machine, and the diagrams of its states and phrases.
-pub record AreStored (e : Encoding) (active phrases : List ℕ) : Type 0 where
+-- the diagrams of states and of phrases, and those of the comparisons that have levels, as far as they have been made
+pub record Made : Type 0 where
+  pub active : List ℕ
+  pub phrases : List ℕ
+  pub exact : List (Option ℕ)
+
+-- What is stored: levels for the worlds of the machine, and its diagrams.
+pub record AreStored (e : Encoding) (made : Made) : Type 0 where
   pub levels : AreKeyed (worlds_of e)
   pub same_levels : e.diagram.levels ≡ length e.slots
-  pub active_are : AreActive e.diagram (worlds_of e) active
-  pub phrases_are : ArePhrases e.diagram (worlds_of e) (length e.machine.base.phrases) phrases
+  pub active_are : AreActive e.diagram (worlds_of e) made.active
+  pub phrases_are : ArePhrases e.diagram (worlds_of e) (length e.machine.base.phrases) made.phrases
+  pub exact_are : AreExact e.diagram (worlds_of e) made.exact
 
 -- an encoder of its parts
 abbrev pub encoding_of : GroundMachine → KeyedWorlds → Diagram → Encoding
 encoding_of m k d = record { machine = m; slots = k.slots; keyed = k.keyed; diagram = d }
 
 -- Its parts: levels of the machine's phrases, and the diagrams.
-pub record AreEncoded (m : GroundMachine) (k : KeyedWorlds) (d : Diagram) (active phrases : List ℕ) : Type 0 where
+pub record AreEncoded (m : GroundMachine) (k : KeyedWorlds) (d : Diagram) (made : Made) : Type 0 where
   pub same : k.base ≡ m.base
-  pub stored : AreStored (encoding_of m k d) active phrases
+  pub stored : AreStored (encoding_of m k d) made
+
+-- the member is one of the specification
+abbrev pub IsMember : GroundMachine → Member → Type 0
+IsMember m x = (member : meaning_of.Member) × MemberIs m.base.spec member x

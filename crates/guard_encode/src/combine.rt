@@ -22,6 +22,7 @@ impl<'m, 'a> Encoder<'m, 'a> {
     pub fn not(&mut self, f: Ref) -> Result<Ref, NoMemory>
         requires { IsRef self.old.diagram f }
         ensures keeps { Keeps self.old self.new }
+        ensures is_ref { IfOk result (IsRef self.new.diagram) }
         ensures answer { IfOk result (λ r. (truth : World → Bool) → Tells self.old truth f
             → Tells self.new (λ w. not (truth w)) r) }
     {
@@ -33,6 +34,7 @@ impl<'m, 'a> Encoder<'m, 'a> {
         requires f_ref { IsRef self.old.diagram f }
         requires g_ref { IsRef self.old.diagram g }
         ensures keeps { Keeps self.old self.new }
+        ensures is_ref { IfOk result (IsRef self.new.diagram) }
         ensures answer { IfOk result (λ r. (one other : World → Bool) → Tells self.old one f → Tells self.old other g
             → Tells self.new (λ w. one w && other w) r) }
     {
@@ -44,6 +46,7 @@ impl<'m, 'a> Encoder<'m, 'a> {
         requires f_ref { IsRef self.old.diagram f }
         requires g_ref { IsRef self.old.diagram g }
         ensures keeps { Keeps self.old self.new }
+        ensures is_ref { IfOk result (IsRef self.new.diagram) }
         ensures answer { IfOk result (λ r. (one other : World → Bool) → Tells self.old one f → Tells self.old other g
             → Tells self.new (λ w. one w || other w) r) }
     {

@@ -1,17 +1,18 @@
-ghost use Rattle.std.specs.Prelude.{◌≡◌, ◌<◌, IfOk, length, slice_get};
+ghost use Rattle.std.specs.Prelude.{◌≡◌, ◌<◌, IfOk, length};
 ghost use Rattle.rsml_meaning.specs.Instances.{states};
 ghost use Rattle.rsml_ground.specs.Rests.{GuardFits};
 ghost use Rattle.rsml_ground.specs.Truths.{guard_truth, is_active, truths_in};
 ghost use Rattle.guard_encode.specs.Encoding.{Keeps, Tells};
 
-use crate::order::order;
 use crate::phrases::all_phrases;
 use bdd_core::{Arena, Ref};
 use elaborate::Machine;
 use keyed_levels::KeyedLevels;
+use level_order::order;
 use linear_bits::SumTable;
 use rsml_base::NoMemory;
 use rsml_ground::GroundGuard;
+use settled_worlds::ExactKeys;
 use state_diagrams::active_states;
 use std::alloc::Global;
 use std::marker::Model;
@@ -24,6 +25,7 @@ pub struct Encoder<'m, 'a> {
     pub(crate) levels: KeyedLevels<'m, 'a>,
     pub(crate) arena: Arena,
     pub(crate) sums: SumTable,
+    pub(crate) exact: ExactKeys,
     pub(crate) active: Vec<Ref>,
     pub(crate) phrases: Vec<Ref>,
 }
@@ -40,7 +42,11 @@ impl<'m, 'a> Model for Encoder<'m, 'a> {
 
     ghost view = { λ e. encoding_of e.machine.now e.levels e.arena };
 
-    ghost invariant = { λ e. AreEncoded e.machine.now e.levels e.arena e.active.items e.phrases.items };
+    ghost invariant = { λ e. AreEncoded e.machine.now e.levels e.arena (record {
+      active = e.active.items;
+      phrases = e.phrases.items;
+      exact = e.exact;
+    }) };
 }
 
 impl<'m, 'a> Encoder<'m, 'a> {
@@ -63,7 +69,7 @@ impl<'m, 'a> Encoder<'m, 'a> {
         ensures { IfOk result (λ e. e.machine ≡ machine.now) }
     {
         machine.law();
-        let _ = levels.keys();
+        let exact = ExactKeys::new(alloc, levels.keys().len())?;
         let mut arena = Arena::new(alloc, levels.layout().levels())?;
         let mut sums = SumTable::new(alloc)?;
         let active = active_states(
@@ -79,6 +85,7 @@ impl<'m, 'a> Encoder<'m, 'a> {
             levels,
             arena,
             sums,
+            exact,
             active,
             phrases,
         })

@@ -2,10 +2,11 @@
 #![tactic(auto)]
 
 mod cases;
-mod clusters;
 mod combine;
+mod decided;
 mod encoder;
-mod order;
+mod groups;
+mod of_cell;
 mod phrase;
 mod phrases;
 mod test;

@@ -36,9 +36,9 @@ impl<'a> Model for CellRef<'a> {
 
 // Writes a previous cell.
 fn put_previous<W: Writer>(writer: &mut W, input: &Listed<'_>)
-    ensures { Writes (W.whole writer.old) (W.text writer.old)
+    ensures { Writes (W.state writer.old) (W.text writer.old)
         (codes "previous " ++ instance_text (instance_of input.now))
-        (W.whole writer.new) (W.text writer.new) }
+        (W.state writer.new) (W.text writer.new) }
 {
     writer.put(b"previous ");
     input.put(writer);
@@ -47,8 +47,8 @@ fn put_previous<W: Writer>(writer: &mut W, input: &Listed<'_>)
 impl<'a> CellRef<'a> {
     /// Writes the cell.
     pub fn put<W: Writer>(&self, writer: &mut W)
-        ensures { Writes (W.whole writer.old) (W.text writer.old) (cell_text self.now)
-            (W.whole writer.new) (W.text writer.new) }
+        ensures { Writes (W.state writer.old) (W.text writer.old) (cell_text self.now)
+            (W.state writer.new) (W.text writer.new) }
     {
         if self.previous {
             put_previous(writer, &self.input);

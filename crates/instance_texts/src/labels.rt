@@ -15,8 +15,8 @@ use text_writer::{Writer, put_number};
 
 /// Writes the label of a case.
 pub fn put_case_label<W: Writer>(writer: &mut W, ordinal: u32)
-    ensures { Writes (W.whole writer.old) (W.text writer.old) (case_label ordinal)
-        (W.whole writer.new) (W.text writer.new) }
+    ensures { Writes (W.state writer.old) (W.text writer.old) (case_label ordinal)
+        (W.state writer.new) (W.text writer.new) }
 {
     writer.put(b"case ");
     put_number(writer, u64::from(ordinal));
@@ -35,8 +35,8 @@ fn rest_from<'p, 'a>(path: &'p [StepRef<'a>], count: usize) -> &'p [StepRef<'a>]
 
 // Writes ` stay ` and the source.
 fn put_stay<W: Writer>(writer: &mut W, source: &StepRef<'_>)
-    ensures { Writes (W.whole writer.old) (W.text writer.old) (codes " stay " ++ source.now.name)
-        (W.whole writer.new) (W.text writer.new) }
+    ensures { Writes (W.state writer.old) (W.text writer.old) (codes " stay " ++ source.now.name)
+        (W.state writer.new) (W.text writer.new) }
 {
     writer.put(b" stay ");
     writer.put(source.name.bytes());
@@ -44,9 +44,9 @@ fn put_stay<W: Writer>(writer: &mut W, source: &StepRef<'_>)
 
 // Writes ` move `, the source, and the target from the component on.
 fn put_move<W: Writer>(writer: &mut W, source: &StepRef<'_>, target: &[StepRef<'_>])
-    ensures { Writes (W.whole writer.old) (W.text writer.old)
+    ensures { Writes (W.state writer.old) (W.text writer.old)
         (codes " move " ++ (source.now.name ++ (codes " -> " ++ path_text target.now)))
-        (W.whole writer.new) (W.text writer.new) }
+        (W.state writer.new) (W.text writer.new) }
 {
     writer.put(b" move ");
     writer.put(source.name.bytes());
@@ -56,9 +56,9 @@ fn put_move<W: Writer>(writer: &mut W, source: &StepRef<'_>, target: &[StepRef<'
 
 // Writes a component and an ordinal there.
 fn put_start<W: Writer>(writer: &mut W, component: &[StepRef<'_>], ordinal: u32)
-    ensures { Writes (W.whole writer.old) (W.text writer.old)
+    ensures { Writes (W.state writer.old) (W.text writer.old)
         (path_text component.now ++ (codes " " ++ decimal ordinal))
-        (W.whole writer.new) (W.text writer.new) }
+        (W.state writer.new) (W.text writer.new) }
 {
     put_path(writer, component);
     writer.put(b" ");
@@ -74,8 +74,8 @@ fn put_action<W: Writer>(
 )
     ensures { (t : TransitionInstance) → length t.component ≡ component → last_name t.source ≡ source.now.name
         → t.target ≡ option_copied target.entry
-        → Writes (W.whole writer.old) (W.text writer.old) (action_text t)
-        (W.whole writer.new) (W.text writer.new) }
+        → Writes (W.state writer.old) (W.text writer.old) (action_text t)
+        (W.state writer.new) (W.text writer.new) }
 {
     match target {
         None => put_stay(writer, source),
@@ -92,8 +92,8 @@ fn put_label_of<W: Writer>(
 )
     ensures { (t : TransitionInstance) → StartsBelow t → t.ordinal ≡ ordinal → t.source ≡ source.now
         → t.target ≡ option_copied target.entry
-        → Writes (W.whole writer.old) (W.text writer.old) (label t)
-        (W.whole writer.new) (W.text writer.new) }
+        → Writes (W.state writer.old) (W.text writer.old) (label t)
+        (W.state writer.new) (W.text writer.new) }
 {
     match source.split_last() {
         Some((step, component)) => {
@@ -118,7 +118,7 @@ fn target_path<'n>(nodes: &'n Nodes<'_>, target: Option<u32>) -> Option<&'n [Ste
 pub fn put_label<W: Writer>(writer: &mut W, tree: &Tree<'_>, transition: &GroundTransition)
     ensures { (ps : List ground.GroundPhrase) (t : TransitionInstance) (place : ℕ)
         → slice_get (transitions tree.now) place ≡ Some t → TransitionIs ps tree.now t transition.now
-        → Writes (W.whole writer.old) (W.text writer.old) (label t) (W.whole writer.new) (W.text writer.new) }
+        → Writes (W.state writer.old) (W.text writer.old) (label t) (W.state writer.new) (W.text writer.new) }
 {
     let nodes = tree.states();
     match nodes.path(transition.source) {

@@ -29,8 +29,8 @@ impl<'a> Model for Listed<'a> {
 impl<'a> Listed<'a> {
     /// Writes the instance.
     pub fn put<W: Writer>(&self, writer: &mut W)
-        ensures { Writes (W.whole writer.old) (W.text writer.old) (instance_text (instance_of self.now))
-            (W.whole writer.new) (W.text writer.new) }
+        ensures { Writes (W.state writer.old) (W.text writer.old) (instance_text (instance_of self.now))
+            (W.state writer.new) (W.text writer.new) }
     {
         put_instance(writer, name_of(self.decl).bytes(), self.index);
     }

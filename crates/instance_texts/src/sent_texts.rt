@@ -82,9 +82,9 @@ impl<'a> SentTexts<'a> {
     /// Writes a number that the case of a number sends in the field at a place: by its name, where the value is one of an
     /// enumeration. Nothing where there is no such field.
     pub fn put_sent<W: Writer>(&self, writer: &mut W, case: u32, place: usize, number: i64)
-        ensures { let g = globals_of self.now in Writes (W.whole writer.old) (W.text writer.old)
+        ensures { let g = globals_of self.now in Writes (W.state writer.old) (W.text writer.old)
             (option_map_or (λ value. value_text (names_of_kind g (value_kind g value)) number) (sent_value self.now case place) [])
-            (W.whole writer.new) (W.text writer.new) }
+            (W.state writer.new) (W.text writer.new) }
     {
         match self.value(case, place) {
             Some(value) => put_value(writer, value_names(&self.globals, value), number),

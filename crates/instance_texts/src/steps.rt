@@ -9,8 +9,8 @@ use text_writer::{Writer, put_number};
 
 /// Writes a name with an index.
 fn put_indexed<W: Writer>(writer: &mut W, name: &[u8], index: u8)
-    ensures { Writes (W.whole writer.old) (W.text writer.old)
-        (name.now ++ (codes "[" ++ (decimal index ++ codes "]"))) (W.whole writer.new) (W.text writer.new) }
+    ensures { Writes (W.state writer.old) (W.text writer.old)
+        (name.now ++ (codes "[" ++ (decimal index ++ codes "]"))) (W.state writer.new) (W.text writer.new) }
 {
     writer.put(name);
     writer.put(b"[");
@@ -20,8 +20,8 @@ fn put_indexed<W: Writer>(writer: &mut W, name: &[u8], index: u8)
 
 /// Writes an instance: its name, with its index where that is not 0.
 pub fn put_instance<W: Writer>(writer: &mut W, name: &[u8], index: u8)
-    ensures { Writes (W.whole writer.old) (W.text writer.old) (instance_text (at name.now index))
-        (W.whole writer.new) (W.text writer.new) }
+    ensures { Writes (W.state writer.old) (W.text writer.old) (instance_text (at name.now index))
+        (W.state writer.new) (W.text writer.new) }
 {
     if index == 0 {
         writer.put(name);
@@ -32,8 +32,8 @@ pub fn put_instance<W: Writer>(writer: &mut W, name: &[u8], index: u8)
 
 /// Writes steps with `.` before each.
 fn put_further<W: Writer>(writer: &mut W, steps: &[StepRef<'_>])
-    ensures { Writes (W.whole writer.old) (W.text writer.old)
-        (flat_map dotted steps.now) (W.whole writer.new) (W.text writer.new) }
+    ensures { Writes (W.state writer.old) (W.text writer.old)
+        (flat_map dotted steps.now) (W.state writer.new) (W.text writer.new) }
 {
     for step in steps {
         writer.put(b".");
@@ -43,8 +43,8 @@ fn put_further<W: Writer>(writer: &mut W, steps: &[StepRef<'_>])
 
 /// Writes a path: its steps with `.` between each two.
 pub fn put_path<W: Writer>(writer: &mut W, steps: &[StepRef<'_>])
-    ensures { Writes (W.whole writer.old) (W.text writer.old) (path_text steps.now)
-        (W.whole writer.new) (W.text writer.new) }
+    ensures { Writes (W.state writer.old) (W.text writer.old) (path_text steps.now)
+        (W.state writer.new) (W.text writer.new) }
 {
     match steps.split_first() {
         Some((first, further)) => {

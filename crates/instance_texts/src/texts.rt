@@ -50,9 +50,9 @@ impl<'a> Model for Texts<'a> {
 
 // Writes the instance at a place, or nothing where there is none.
 fn put_at<W: Writer>(writer: &mut W, listed: &[Listed<'_>], place: u32)
-    ensures { Writes (W.whole writer.old) (W.text writer.old)
+    ensures { Writes (W.state writer.old) (W.text writer.old)
         (option_map_or instance_text (slice_get (map instance_of listed.now) place) [])
-        (W.whole writer.new) (W.text writer.new) }
+        (W.state writer.new) (W.text writer.new) }
 {
     match listed.get(place as usize) {
         Some(one) => one.put(writer),
@@ -80,45 +80,45 @@ impl<'a> Texts<'a> {
 
     /// Writes the event of a number. Nothing where there is none.
     pub fn put_event<W: Writer>(&self, writer: &mut W, number: u32)
-        ensures { Writes (W.whole writer.old) (W.text writer.old)
+        ensures { Writes (W.state writer.old) (W.text writer.old)
             (option_map_or instance_text (slice_get (instances.events self.now) number) [])
-            (W.whole writer.new) (W.text writer.new) }
+            (W.state writer.new) (W.text writer.new) }
     {
         put_at(writer, self.events.as_slice(), number);
     }
 
     /// Writes the macro or function of a number. Nothing where there is none.
     pub fn put_function<W: Writer>(&self, writer: &mut W, number: u32)
-        ensures { Writes (W.whole writer.old) (W.text writer.old)
+        ensures { Writes (W.state writer.old) (W.text writer.old)
             (option_map_or instance_text (slice_get (map defined (interfaces.definitions self.now)) number) [])
-            (W.whole writer.new) (W.text writer.new) }
+            (W.state writer.new) (W.text writer.new) }
     {
         put_at(writer, self.interfaces.definitions.as_slice(), number);
     }
 
     /// Writes the receive of a number. Nothing where there is none.
     pub fn put_receive<W: Writer>(&self, writer: &mut W, number: u32)
-        ensures { Writes (W.whole writer.old) (W.text writer.old)
+        ensures { Writes (W.state writer.old) (W.text writer.old)
             (option_map_or instance_text (slice_get (map (λ r. r.receive) (interfaces.receives self.now)) number) [])
-            (W.whole writer.new) (W.text writer.new) }
+            (W.state writer.new) (W.text writer.new) }
     {
         put_at(writer, self.interfaces.receives.as_slice(), number);
     }
 
     /// Writes the send of a number. Nothing where there is none.
     pub fn put_send<W: Writer>(&self, writer: &mut W, number: u32)
-        ensures { Writes (W.whole writer.old) (W.text writer.old)
+        ensures { Writes (W.state writer.old) (W.text writer.old)
             (option_map_or instance_text (slice_get (interfaces.sends self.now) number) [])
-            (W.whole writer.new) (W.text writer.new) }
+            (W.state writer.new) (W.text writer.new) }
     {
         put_at(writer, self.interfaces.sends.as_slice(), number);
     }
 
     /// Writes the cell of a number. Nothing where there is none.
     pub fn put_cell<W: Writer>(&self, writer: &mut W, number: u32)
-        ensures { Writes (W.whole writer.old) (W.text writer.old)
+        ensures { Writes (W.state writer.old) (W.text writer.old)
             (option_map_or cell_text (slice_get (spec_cells.cells self.now) number) [])
-            (W.whole writer.new) (W.text writer.new) }
+            (W.state writer.new) (W.text writer.new) }
     {
         let _ = &self.spec;
         match self.cells.get(number as usize) {
@@ -129,9 +129,9 @@ impl<'a> Texts<'a> {
 
     /// Writes a number that the cell of a number holds: by its name, where the type is an enumeration.
     pub fn put_value<W: Writer>(&self, writer: &mut W, cell: u32, number: i64)
-        ensures { Writes (W.whole writer.old) (W.text writer.old)
+        ensures { Writes (W.state writer.old) (W.text writer.old)
             (option_map_or (λ c. value_text c.numbers.names number) (slice_get (spec_cells.cells self.now) cell) [])
-            (W.whole writer.new) (W.text writer.new) }
+            (W.state writer.new) (W.text writer.new) }
     {
         let _ = &self.spec;
         match self.cells.get(cell as usize) {

@@ -7,8 +7,8 @@ use text_writer::{Writer, put_signed};
 
 // Writes the name at a place, or nothing where there is none.
 fn put_name<W: Writer>(writer: &mut W, names: &[Text], place: usize)
-    ensures { Writes (W.whole writer.old) (W.text writer.old) (slice_index_or names.now place [])
-        (W.whole writer.new) (W.text writer.new) }
+    ensures { Writes (W.state writer.old) (W.text writer.old) (slice_index_or names.now place [])
+        (W.state writer.new) (W.text writer.new) }
 {
     match names.get(place) {
         Some(name) => writer.put(name.bytes()),
@@ -18,8 +18,8 @@ fn put_name<W: Writer>(writer: &mut W, names: &[Text], place: usize)
 
 /// Writes a number by its name among these, or by its digits where there are no names.
 pub fn put_value<W: Writer>(writer: &mut W, names: &[Text], number: i64)
-    ensures { Writes (W.whole writer.old) (W.text writer.old) (value_text names.now number)
-        (W.whole writer.new) (W.text writer.new) }
+    ensures { Writes (W.state writer.old) (W.text writer.old) (value_text names.now number)
+        (W.state writer.new) (W.text writer.new) }
 {
     if names.is_empty() {
         put_signed(writer, number);

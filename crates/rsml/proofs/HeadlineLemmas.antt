@@ -11,13 +11,11 @@ use Rattle.rsml.specs.declared.status.Status.TheVariants as status
 
 certified_so : (s : Spec) (answer : Status) (bytes : Bytes) → answer ≡ status.Done → SpecificationOutput s answer bytes → IsCertificate s bytes
 certified_so s answer bytes e (output.broken _ f) = absurd (cc (e, f))
-certified_so s answer bytes e (output.not_built _ f _) = absurd (cc (e, f))
 certified_so s answer bytes e (output.refused _ _ f) = absurd (cc (e, f))
 certified_so s answer bytes e (output.certified _ c _) = c
 
 refused_so : (s : Spec) (answer : Status) (bytes : Bytes) → answer ≡ status.Refused → SpecificationOutput s answer bytes → IsRefusal s bytes
 refused_so s answer bytes e (output.broken _ f) = absurd (cc (e, f))
-refused_so s answer bytes e (output.not_built _ f _) = absurd (cc (e, f))
 refused_so s answer bytes e (output.refused _ c _) = c
 refused_so s answer bytes e (output.certified _ _ f) = absurd (cc (e, f))
 

@@ -13,7 +13,7 @@ use Rattle.rsml_syntax.specs.limits.Limits.{Keeps, over}
 use Rattle.rsml_syntax.specs.rules.Rules.{broken_rule}
 use Rattle.rsml.specs.Commands.{Bytes}
 use Rattle.rsml.specs.Headline.{IsRightReport, IsCertificate, IsRefusal, EndsInLine}
-use Rattle.rsml.specs.Judgements.{IsBroken, IsAnalysed, IsJudged, IsJudgement}
+use Rattle.rsml.specs.Judgements.{IsBroken, IsJudged, IsJudgement}
 use Rattle.rsml.specs.Judgements as judged
 use Rattle.rsml.specs.Steps.{IsRuleLine, rule, limit}
 use Rattle.rsml.specs.Texts.{IsTextOf}
@@ -58,7 +58,6 @@ pub judgement_of : (text : Bytes) (s : Spec) (j : Judgement) → IsTextOf text s
 judgement_of text s judgement.TooLong t h = elim h [ ]
 judgement_of text s (judgement.Unread line) t h = elim h [ ]
 judgement_of text s (judgement.Broken line) t h = (s, t, h)
-judgement_of text s judgement.NotBuilt t h = (s, t, h)
 judgement_of text s (judgement.Refused report) t h = (s, t, h)
 judgement_of text s (judgement.Certified report checked) t h = (s, t, h)
 
@@ -67,19 +66,13 @@ judgements_of text s (Ok j) t h = judgement_of text s j t h
 judgements_of text s (Err x) t h = h
 
 -- what a specification that is analysed is judged to be, by its report
-module _ (s spec : Spec) (same : spec ≡ s) (analysed : IsAnalysed s) (told : Vec ℕ Global) (certified : Bool)
-    (report : IsReport spec told.items) (is : IsTrue certified ↔ Certified spec) where
-  its_report : IsReport s told.items
-  its_report = subst (λ (x : Spec). IsReport x told.items) same report
-
-  its_certificate : IsTrue certified ↔ Certified s
-  its_certificate = subst (λ (x : Spec). IsTrue certified ↔ Certified x) same is
-
+module _ (s : Spec) (keeps : Keeps s) (told : Vec ℕ Global) (certified : Bool)
+    (report : IsReport s told.items) (is : IsTrue certified ↔ Certified s) where
   pub certified_judged : CertifiedIsDeterministic → LastLineIsVerdict → certified ≡ true → (j : Judgement)
       → j ≡ judgement.Certified told s → IsJudged s j
   certified_judged one last e j f =
-      let c = certificate one last s told.items analysed.keeps (its_certificate.0 e) its_report in
-      subst (λ (x : Judgement). IsJudged s x) (sym f) (refl, analysed, c)
+      let c = certificate one last s told.items keeps (is.0 e) report in
+      subst (λ (x : Judgement). IsJudged s x) (sym f) (refl, keeps, c)
 
   pub refused_judged : LastLineIsVerdict → certified ≡ false → IsRefusal s told.items
-  refused_judged last e = refusal last s told.items analysed.keeps (λ c. absurd (cc (e, its_certificate.1 c))) its_report
+  refused_judged last e = refusal last s told.items keeps (λ c. absurd (cc (e, is.1 c))) report

@@ -21,7 +21,7 @@ use Rattle.rsml_syntax.proofs.ScanLemmas.{lexes_tokens}
 use Rattle.rsml.specs.Commands.{Bytes, Command, with_file}
 use Rattle.rsml.specs.FaultLines as lines
 use Rattle.rsml.specs.Headline.{IsRightReport}
-use Rattle.rsml.specs.Judgements.{IsBroken, IsAnalysed, IsNotBuilt}
+use Rattle.rsml.specs.Judgements.{IsBroken}
 use Rattle.rsml.specs.Judgements as judged
 use Rattle.rsml.specs.Laws.{OutputIsOne}
 use Rattle.rsml.specs.Output.{SpecificationOutput, CheckOutput, FormatOutput, MigrateOutput, ActionOutput, no_command, acted}
@@ -50,27 +50,17 @@ keeps_none : (s : Spec) (xs : Bytes) → Keeps s → IsBroken s xs → ⊥
 keeps_none s xs keeps (judged.IsBroken.rule b e is) = let f = keeps.rules in cc (e, f)
 keeps_none s xs keeps (judged.IsBroken.limit c e g is) = let f = keeps.limits in cc (g, f)
 
-built_not : (s : Spec) → IsAnalysed s → IsNotBuilt s → ⊥
-built_not s a b = let e = a.built in let f = b.not_built in cc (e, f)
-
 one_report : ReportIsOne → (s : Spec) (xs ys : Bytes) → IsRightReport s xs → IsRightReport s ys → xs ≡ ys
 one_report one s xs ys r q = one s xs ys (r.answers, r.right, r.text) (q.answers, q.right, q.text)
 
 one_of_specification : ReportIsOne → (s : Spec) (a b : Status) (xs ys : Bytes) → SpecificationOutput s a xs → SpecificationOutput s b ys → AreOne a xs b ys
 one_of_specification one s a b xs ys (output.broken h e) (output.broken k f) = (e ∙ sym f, one_broken s xs ys h k)
-one_of_specification one s a b xs ys (output.broken h e) (output.not_built k f _) = absurd (keeps_none s xs k.keeps h)
-one_of_specification one s a b xs ys (output.broken h e) (output.refused k _ f) = absurd (keeps_none s xs k.keeps h)
-one_of_specification one s a b xs ys (output.broken h e) (output.certified k _ f) = absurd (keeps_none s xs k.keeps h)
-one_of_specification one s a b xs ys (output.not_built h e _) (output.broken k f) = absurd (keeps_none s ys h.keeps k)
-one_of_specification one s a b xs ys (output.not_built h e x) (output.not_built k f y) = (e ∙ sym f, x ∙ sym y)
-one_of_specification one s a b xs ys (output.not_built h e _) (output.refused k _ f) = absurd (built_not s k h)
-one_of_specification one s a b xs ys (output.not_built h e _) (output.certified k _ f) = absurd (built_not s k h)
-one_of_specification one s a b xs ys (output.refused h _ e) (output.broken k f) = absurd (keeps_none s ys h.keeps k)
-one_of_specification one s a b xs ys (output.refused h _ e) (output.not_built k f _) = absurd (built_not s h k)
+one_of_specification one s a b xs ys (output.broken h e) (output.refused k _ f) = absurd (keeps_none s xs k h)
+one_of_specification one s a b xs ys (output.broken h e) (output.certified k _ f) = absurd (keeps_none s xs k h)
+one_of_specification one s a b xs ys (output.refused h _ e) (output.broken k f) = absurd (keeps_none s ys h k)
 one_of_specification one s a b xs ys (output.refused h r e) (output.refused k q f) = (e ∙ sym f, one_report one s xs ys r.report q.report)
 one_of_specification one s a b xs ys (output.refused h r e) (output.certified k q f) = absurd (r.not_certified q.certified)
-one_of_specification one s a b xs ys (output.certified h _ e) (output.broken k f) = absurd (keeps_none s ys h.keeps k)
-one_of_specification one s a b xs ys (output.certified h _ e) (output.not_built k f _) = absurd (built_not s h k)
+one_of_specification one s a b xs ys (output.certified h _ e) (output.broken k f) = absurd (keeps_none s ys h k)
 one_of_specification one s a b xs ys (output.certified h r e) (output.refused k q f) = absurd (q.not_certified r.certified)
 one_of_specification one s a b xs ys (output.certified h r e) (output.certified k q f) = (e ∙ sym f, one_report one s xs ys r.report q.report)
 

@@ -41,9 +41,6 @@ refused_of_text answer e = of_text answer status.Refused e (λ f. absurd (cc f))
 pub long_of_text : (answer : Status) → answer ≡ status.TooLong → IsOfText answer
 long_of_text answer e = of_text answer status.TooLong e (λ f. absurd (cc f)) (λ f. absurd (cc f)) (λ f. absurd (cc f)) (λ f. absurd (cc f))
 
-pub unbuilt_of_text : (answer : Status) → answer ≡ status.NotBuilt → IsOfText answer
-unbuilt_of_text answer e = of_text answer status.NotBuilt e (λ f. absurd (cc f)) (λ f. absurd (cc f)) (λ f. absurd (cc f)) (λ f. absurd (cc f))
-
 -- what `check` comes to, by what the text is judged to be
 
 pub unread_output : (text : Bytes) (j : Judgement) (line : Vec ℕ Global) (o : Outcome) → j ≡ judgement.Unread line → IsJudgement text j
@@ -69,11 +66,6 @@ pub certified_output : (text : Bytes) (j : Judgement) (report : Vec ℕ Global) 
 certified_output text j report spec o e h s t =
     let is : IsJudgement text (judgement.Certified report spec) = subst (IsJudgement text) e h in
     output.judged is.0 is.1 (output.certified is.2.1 (subst (λ (v : Vec ℕ Global). IsCertificate is.0 v.items) (sym t) is.2.2) s)
-
-pub unbuilt_output : (text : Bytes) (j : Judgement) (r : Result Outcome NoMemory) → j ≡ judgement.NotBuilt → IsJudgement text j
-    → IfOk r (λ o. o.status ≡ status.NotBuilt) → IfOk r (λ o. o.text.items ≡ lines.not_built) → IfOk r (λ o. CheckOutput text o.status o.text.items)
-unbuilt_output text j (Ok o) e h s t = let is : IsJudgement text judgement.NotBuilt = subst (IsJudgement text) e h in output.judged is.0 is.1 (output.not_built is.2 s t)
-unbuilt_output text j (Err x) e h s t = s
 
 pub long_output : (text : Bytes) (j : Judgement) (r : Result Outcome NoMemory) → j ≡ judgement.TooLong → IsJudgement text j
     → IfOk r (λ o. o.status ≡ status.TooLong) → IfOk r (λ o. o.text.items ≡ lines.long) → IfOk r (λ o. CheckOutput text o.status o.text.items)

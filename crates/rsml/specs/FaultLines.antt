@@ -16,10 +16,6 @@ read = codes "fault read\n"
 abbrev pub long : Bytes
 long = codes "fault long\n"
 
--- the analysis is not built for the specification
-abbrev pub not_built : Bytes
-not_built = codes "fault not built\n"
-
 -- `fault ..`, a number, and LF
 abbrev pub numbered : Bytes → ℕ → Bytes
 numbered words n = codes "fault " ++ (words ++ (decimal n ++ codes "\n"))

@@ -1,6 +1,5 @@
 -- What the bytes of a specification are judged to be.
-use Rattle.std.specs.Prelude.{◌≡◌, ℕ, ◌<◌, true, false, length, Some, None}
-use Rattle.flat_machine.specs.Flat.{is_flat}
+use Rattle.std.specs.Prelude.{◌≡◌, ℕ, ◌<◌, length, Some, None}
 use Rattle.rsml_syntax.specs.declared.syntax.Spec.{Spec}
 use Rattle.rsml_syntax.specs.limits.Limits.{Keeps, over}
 use Rattle.rsml_syntax.specs.rules.Breaches.{Breach}
@@ -17,24 +16,13 @@ pub data IsBroken (s : Spec) (line : Bytes) : Type 0 where
   rule : (b : Breach) → broken_rule s ≡ Some b → line ≡ lines.rule b → IsBroken s line
   limit : (count : ℕ × ℕ) → broken_rule s ≡ None → over s ≡ Some count → line ≡ lines.limit count → IsBroken s line
 
--- The specification keeps the rules and the limits, and the analysis is built for it.
-pub record IsAnalysed (s : Spec) : Type 0 where
-  pub keeps : Keeps s
-  pub built : is_flat s ≡ true
-
--- The specification keeps the rules and the limits, and the analysis is not built for it.
-pub record IsNotBuilt (s : Spec) : Type 0 where
-  pub keeps : Keeps s
-  pub not_built : is_flat s ≡ false
-
 -- what a specification is judged to be
 abbrev pub IsJudged : Spec → Judgement → Type 0
 IsJudged s judgement.TooLong = ⊥
 IsJudged s (judgement.Unread line) = ⊥
 IsJudged s (judgement.Broken line) = IsBroken s line.items
-IsJudged s judgement.NotBuilt = IsNotBuilt s
-IsJudged s (judgement.Refused report) = IsAnalysed s × IsRefusal s report.items
-IsJudged s (judgement.Certified report checked) = (checked ≡ s) × IsAnalysed s × IsCertificate s report.items
+IsJudged s (judgement.Refused report) = Keeps s × IsRefusal s report.items
+IsJudged s (judgement.Certified report checked) = (checked ≡ s) × Keeps s × IsCertificate s report.items
 
 -- the text reads as a specification that is judged so
 abbrev pub ReadsAndIsJudged : Bytes → Judgement → Type 0
@@ -45,6 +33,5 @@ abbrev pub IsJudgement : Bytes → Judgement → Type 0
 IsJudgement text judgement.TooLong = greatest_text < length text
 IsJudgement text (judgement.Unread line) = IsUnread text line.items
 IsJudgement text (judgement.Broken line) = ReadsAndIsJudged text (judgement.Broken line)
-IsJudgement text judgement.NotBuilt = ReadsAndIsJudged text judgement.NotBuilt
 IsJudgement text (judgement.Refused report) = ReadsAndIsJudged text (judgement.Refused report)
 IsJudgement text (judgement.Certified report checked) = ReadsAndIsJudged text (judgement.Certified report checked)

@@ -6,19 +6,19 @@ use Rattle.rsml_syntax.specs.grammar.Layout.{layout}
 use Rattle.rsml.specs.Commands.{Bytes, with_file, command_of}
 use Rattle.rsml.specs.FaultLines as lines
 use Rattle.rsml.specs.Headline.{IsCertificate, IsRefusal}
-use Rattle.rsml.specs.Judgements.{IsBroken, IsAnalysed, IsNotBuilt}
+use Rattle.rsml_syntax.specs.limits.Limits.{Keeps}
+use Rattle.rsml.specs.Judgements.{IsBroken}
 use Rattle.rsml.specs.Texts.{IsTextOf, IsUnread, IsTextByFirst, IsUnreadByFirst, greatest_text}
 use Rattle.rsml.specs.declared.command.Action.{Action}
 use Rattle.rsml.specs.declared.command.Action.TheVariants as action
 use Rattle.rsml.specs.declared.status.Status.{Status}
 use Rattle.rsml.specs.declared.status.Status.TheVariants as status
 
--- What `check` answers and writes of a specification. The analysis is built for flat specifications alone.
+-- What `check` answers and writes of a specification.
 pub data SpecificationOutput (s : Spec) (answer : Status) (bytes : Bytes) : Type 0 where
   broken : IsBroken s bytes → answer ≡ status.SpecFault → SpecificationOutput s answer bytes
-  not_built : IsNotBuilt s → answer ≡ status.NotBuilt → bytes ≡ lines.not_built → SpecificationOutput s answer bytes
-  refused : IsAnalysed s → IsRefusal s bytes → answer ≡ status.Refused → SpecificationOutput s answer bytes
-  certified : IsAnalysed s → IsCertificate s bytes → answer ≡ status.Done → SpecificationOutput s answer bytes
+  refused : Keeps s → IsRefusal s bytes → answer ≡ status.Refused → SpecificationOutput s answer bytes
+  certified : Keeps s → IsCertificate s bytes → answer ≡ status.Done → SpecificationOutput s answer bytes
 
 -- What `check` answers and writes.
 pub data CheckOutput (text : Bytes) (answer : Status) (bytes : Bytes) : Type 0 where

@@ -13,4 +13,3 @@ number status.ReadFault = 5
 number status.WriteFault = 6
 number status.NoMemory = 7
 number status.TooLong = 8
-number status.NotBuilt = 9

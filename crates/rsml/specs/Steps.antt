@@ -1,5 +1,6 @@
 -- What the steps of a command leave.
-use Rattle.std.specs.Prelude.{◌≡◌, ◌≢◌, ℕ, ◌⊎◌, List, Some}
+use Rattle.std.specs.Prelude.{◌≡◌, ◌≢◌, ℕ, ◌⊎◌, List, Some, ⊤}
+use Rattle.rsml_ground.specs.Grounded.{IsShort}
 use Rattle.rsml_lexer.specs.Answers.{error_of}
 use Rattle.rsml_lexer.specs.declared.fault.LexError.{LexError}
 use Rattle.rsml_parser.specs.declared.error.ParseError.{ParseError}
@@ -49,6 +50,11 @@ pub data AreNone (ts : Tokens) (line : Bytes) : Type 0 where
 abbrev pub AreRead : Tokens → ReadText → Type 0
 AreRead ts (texts.Specification s) = IsTokensOf ts s
 AreRead ts (texts.Fault line) = AreNone ts line.items
+
+-- what was read is short enough to be worked out over numbers
+abbrev pub AreShort : ReadText → Type 0
+AreShort (texts.Specification s) = IsShort s
+AreShort (texts.Fault line) = ⊤
 
 -- the text is the specification that was read, or the line tells why it is none
 abbrev pub IsRead : Bytes → ReadText → Type 0

@@ -1,12 +1,14 @@
 ghost use Rattle.std.specs.Prelude.{◌≡◌, IfOk};
+ghost use Rattle.rsml_ground.specs.Grounded.{IsShort};
 ghost use Rattle.rsml_syntax.specs.grammar.WellFormed.{WellFormed};
 ghost use Rattle.rsml.specs.Judgements.{IsJudged, IsJudgement};
 
 use crate::fault_lines::rule_fault;
 use crate::texts::{ReadText, read_text};
-use flat_machine::{Report, is_flat, report};
+use analysis::analysis;
 use one_run::{certified_specifications_are_deterministic, last_lines_tell_the_verdict};
 use rsml_lexer::GREATEST_TEXT;
+use rsml_report::Report;
 use rsml_rules::check_rules;
 use rsml_syntax::{Checked, NoMemory, Spec};
 use std::alloc::Global;
@@ -20,8 +22,6 @@ pub enum Judgement {
     Unread { line: Vec<u8> },
     /// The specification breaks a rule or a limit; the line tells the lowest.
     Broken { line: Vec<u8> },
-    /// The analysis is not built yet for this specification.
-    NotBuilt,
     /// The specification is not certified; the report tells what was found.
     Refused { report: Vec<u8> },
     /// The specification is certified. It is given back with its report.
@@ -37,15 +37,13 @@ fn certificate(report: Vec<u8>, checked: Checked) -> Judgement
 
 /// Judges a specification that keeps the rules and the limits.
 fn analyse(alloc: Global, checked: Checked) -> Result<Judgement, NoMemory>
+    requires { IsShort checked }
     ensures { IfOk result (IsJudged checked) }
 {
     certified_specifications_are_deterministic();
     last_lines_tell_the_verdict();
-    let spec = checked.spec();
-    if !is_flat(spec) {
-        return Ok(Judgement::NotBuilt);
-    }
-    let Report { text, certified } = report(alloc, spec)?;
+    let _ = checked.spec();
+    let Report { text, certified } = analysis(alloc, &checked)?;
     if certified {
         Ok(certificate(text, checked))
     } else {
@@ -55,7 +53,8 @@ fn analyse(alloc: Global, checked: Checked) -> Result<Judgement, NoMemory>
 
 /// Judges a specification.
 fn judge_specification(alloc: Global, spec: Spec) -> Result<Judgement, NoMemory>
-    requires { WellFormed spec }
+    requires formed { WellFormed spec }
+    requires short { IsShort spec }
     ensures { IfOk result (IsJudged spec) }
 {
     match check_rules(alloc, spec) {

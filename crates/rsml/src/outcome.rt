@@ -38,17 +38,6 @@ fn too_long(alloc: Global) -> Result<Outcome, NoMemory>
     Ok(with_text(Status::TooLong, Vec::from_slice(alloc, b"fault long\n")?))
 }
 
-/// The line of a specification that the analysis is not built for.
-fn not_built(alloc: Global) -> Result<Outcome, NoMemory>
-    ensures status { IfOk result (λ o. o.status ≡ Status.NotBuilt) }
-    ensures text { IfOk result (λ o. o.text.items ≡ lines.not_built) }
-{
-    Ok(with_text(
-        Status::NotBuilt,
-        Vec::from_slice(alloc, b"fault not built\n")?,
-    ))
-}
-
 /// What `check` comes to, by what the text is judged to be.
 fn judged(alloc: Global, judgement: Judgement) -> Result<Outcome, NoMemory>
     ensures output { (text : List ℕ) → IsJudgement text judgement
@@ -59,7 +48,6 @@ fn judged(alloc: Global, judgement: Judgement) -> Result<Outcome, NoMemory>
         Judgement::TooLong => too_long(alloc),
         Judgement::Unread { line } => Ok(with_text(Status::SpecFault, line)),
         Judgement::Broken { line } => Ok(with_text(Status::SpecFault, line)),
-        Judgement::NotBuilt => not_built(alloc),
         Judgement::Refused { report } => Ok(with_text(Status::Refused, report)),
         Judgement::Certified { report, .. } => Ok(with_text(Status::Done, report)),
     }

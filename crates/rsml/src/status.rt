@@ -19,8 +19,6 @@ pub enum Status {
     NoMemory,
     /// The specification is too long.
     TooLong,
-    /// What was asked for is not built yet.
-    NotBuilt,
 }
 
 impl Status {
@@ -39,7 +37,6 @@ impl Status {
             Status::WriteFault => 6,
             Status::NoMemory => 7,
             Status::TooLong => 8,
-            Status::NotBuilt => 9,
         }
     }
 }

@@ -3,7 +3,7 @@ ghost use Rattle.rsml_lexer.specs.declared.lexing.TheConstants.{GREATEST_TEXT};
 ghost use Rattle.rsml_syntax.specs.text.Lexing.{bare};
 ghost use Rattle.rsml_syntax.specs.text.Tokens.{AreTokens};
 ghost use Rattle.rsml_syntax.specs.declared.edition.Edition.TheVariants as editions;
-ghost use Rattle.rsml.specs.Steps.{AreRead, IsRead, IsReadByFirst};
+ghost use Rattle.rsml.specs.Steps.{AreRead, AreShort, IsRead, IsReadByFirst};
 
 use crate::fault_lines::{lexical_fault, parse_fault};
 use rsml_lexer::{lex, lex_edition_1};
@@ -22,7 +22,8 @@ pub enum ReadText {
 fn read_tokens(alloc: Global, tokens: &[Placed]) -> Result<ReadText, NoMemory>
     requires few { length tokens.now ≤ GREATEST_TEXT }
     requires fit { AreTokens editions.Second (bare tokens.now) }
-    ensures { IfOk result (AreRead (bare tokens.now)) }
+    ensures read { IfOk result (AreRead (bare tokens.now)) }
+    ensures short { IfOk result AreShort }
 {
     match parse(alloc, tokens) {
         Ok(spec) => Ok(ReadText::Specification(spec)),
@@ -47,7 +48,8 @@ pub fn read_first_edition(alloc: Global, text: &[u8]) -> Result<ReadText, NoMemo
 /// Reads a text as a specification.
 pub fn read_text(alloc: Global, text: &[u8]) -> Result<ReadText, NoMemory>
     requires { length text.now ≤ GREATEST_TEXT }
-    ensures { IfOk result (IsRead text.now) }
+    ensures read { IfOk result (IsRead text.now) }
+    ensures short { IfOk result AreShort }
 {
     match lex(alloc, text) {
         Ok(tokens) => read_tokens(alloc, tokens.as_slice()),

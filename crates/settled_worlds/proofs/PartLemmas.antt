@@ -1,5 +1,6 @@
 -- The levels of a cell are levels of its part: no key's, and of no matter to comparisons that do not name the cell.
-use Rattle.std.proofs.Common.{◌≡◌, ℕ, suc, ◌+◌, ◌<◌, ◌==◌, ◌⊎◌, inl, inr, Bool, true, false, ◌||◌, if◌then◌else◌, List, [], ◌∷◌, ◌++◌, length, map, refl, sym, ap, subst, ◌∙◌, true≢false, arith, Option, None, Some, slice_get, option_to_list}
+use Rattle.std.proofs.Common.{◌≡◌, ℕ, suc, ◌+◌, ◌<◌, ◌==◌, ◌⊎◌, inl, inr, Bool, true, false, not, ◌||◌, if◌then◌else◌, List, [], ◌∷◌, ◌++◌, length, map, refl, sym, ap, subst, ◌∙◌, true≢false, arith, Option, None, Some, slice_get, option_to_list}
+use Rattle.std.proofs.lemmas.Bool.{eq-eqb}
 use Rattle.std.proofs.lemmas.Bool.Decides.{eqb_tells}
 use Rattle.rsml_meaning.specs.Cells.{cells}
 use Rattle.linear_bits.specs.declared.weighted.Weighted.{Weighted}
@@ -13,7 +14,8 @@ use Rattle.world_levels.proofs.Changes.{cell_spells_itself}
 use Rattle.free_levels.specs.Values.{is_in}
 use Rattle.free_levels.proofs.StageLemmas.{never_true}
 use Rattle.keyed_levels.specs.Keyed.{KeyedWorlds, AreKeyed, key_at, world_at}
-use Rattle.settled_worlds.specs.Steps.{compares, cell_levels, IsUnread}
+use Rattle.settled_worlds.specs.Settled.{cell_levels}
+use Rattle.settled_worlds.specs.Steps.{all_but, compares, is_kept, IsUnread}
 use Rattle.settled_worlds.proofs.ReadLemmas.{same_comparison}
 
 -- one of the two is true
@@ -82,3 +84,20 @@ pub unread : (k : KeyedWorlds) (cell i : ℕ) → cell < length (cells k.base.sp
 unread k cell i less not = λ level there values value.
     let differ = cell_spells_itself k.base.spec k.slots values cell level value less (level_of k cell level there) in
     same_comparison cell (world_at k (with_value values level value)) (world_at k values) (slice_get k.base.phrases (key_at k.keyed i).phrase) differ.cells not
+
+abbrev part_at : Option Slot → ℕ
+part_at None = 0
+part_at (Some Free) = 0
+part_at (Some (Part p w)) = p
+
+-- a level of a cell is none of another
+other_level : (k : KeyedWorlds) (cell other level : ℕ) → (other == cell) ≡ false → is_in (cell_levels k cell) level ≡ true → is_in (cell_levels k other) level ≡ false
+other_level k cell other level differ e = never_true (is_in (cell_levels k other) level) (λ f.
+    let same : cell_part k.base.spec other ≡ cell_part k.base.spec cell = sym (ap part_at (level_of k other level f).1) ∙ ap part_at (level_of k cell level e).1 in
+    let one : other ≡ cell = omega (arith, same) in
+    true≢false (sym (eq-eqb other cell one) ∙ differ))
+
+-- the levels of a cell that is not kept may be forgotten
+pub gone : (k : KeyedWorlds) (kept : Option ℕ) (cell level : ℕ) → is_kept kept cell ≡ false → is_in (cell_levels k cell) level ≡ true → all_but k kept level ≡ true
+gone k None cell level differ e = refl
+gone k (Some other) cell level differ e = ap not (other_level k cell other level differ e)

@@ -7,30 +7,35 @@ use Rattle.std.proofs.lemmas.List.{get_or-set_other, length-set}
 use Rattle.bdd_core.specs.Diagram.{Diagram, IsRef, meaning}
 use Rattle.bdd_core.specs.Calls.{Keeps, Represents}
 use Rattle.bdd_core.specs.Calls as forgot
-use Rattle.free_levels.specs.Values.{is_in, IgnoresAll}
+use Rattle.free_levels.specs.Values.{is_in, AgreeOn, IgnoresAll}
 use Rattle.free_levels.specs.Keys.{Keys, AreKeys, IsExact}
 use Rattle.free_levels.specs.Stages.{is_left, FewerLeft, IsStage}
 use Rattle.free_levels.proofs.ValueLemmas.{ignores-all}
 use Rattle.free_levels.proofs.StageLemmas.{stage-refl, stage-trans, stage-skip}
 use Rattle.free_levels.proofs.TurnLemmas.{widen-none, fewer-trans}
 use Rattle.keyed_levels.specs.Keyed.{KeyedWorlds, AreKeyed, key_at, keys_of}
-use Rattle.settled_worlds.specs.Settled.{AreExact}
-use Rattle.settled_worlds.specs.Steps.{all_levels, cell_levels, AreReady, AreStruck, IsSwept, IsUnread}
-use Rattle.settled_worlds.proofs.PartLemmas.{apart}
+use Rattle.settled_worlds.specs.Settled.{AreExact, cell_levels}
+use Rattle.settled_worlds.specs.Steps.{all_but, is_kept, no_levels, AreReady, AreStruck, IsSwept, IsUnread}
+use Rattle.settled_worlds.proofs.PartLemmas.{apart, gone}
 
 pub fewer_refl : (left : List Bool) → FewerLeft left left
 fewer_refl left = record { same_length = refl; stays = λ i e. e }
 
 -- nothing done
-pub swept_none : (k : KeyedWorlds) (d : Diagram) (left : List Bool) (f : ℕ) → IsRef d f → IsSwept k d d left left f f
-swept_none k d left f ref = record { is_ref = ref; fewer = fewer_refl left; stage = stage-refl (keys_of k) all_levels left (meaning d f) }
+pub swept_none : (k : KeyedWorlds) (levels : ℕ → Bool) (d : Diagram) (left : List Bool) (f : ℕ) → IsRef d f → IsSwept k levels d d left left f f
+swept_none k levels d left f ref = record { is_ref = ref; fewer = fewer_refl left; stage = stage-refl (keys_of k) levels left (meaning d f) }
+
+-- where nothing was forgotten, at most these levels were
+pub swept_wider : (k : KeyedWorlds) (levels : ℕ → Bool) (a d : Diagram) (x y : List Bool) (f r : ℕ) → IsSwept k no_levels a d x y f r → IsSwept k levels a d x y f r
+swept_wider k levels a d x y f r p = record { is_ref = p.is_ref; fewer = p.fewer; stage = widen-none (keys_of k) levels x y (meaning a f) (meaning d r) p.stage }
 
 -- one step after another
-pub swept_trans : (k : KeyedWorlds) (a b d : Diagram) (x y z : List Bool) (f g h : ℕ) → IsSwept k a b x y f g → IsSwept k b d y z g h → IsSwept k a d x z f h
-swept_trans k a b d x y z f g h p q = record {
+pub swept_trans : (k : KeyedWorlds) (levels : ℕ → Bool) (a b d : Diagram) (x y z : List Bool) (f g h : ℕ) → IsSwept k levels a b x y f g → IsSwept k levels b d y z g h
+    → IsSwept k levels a d x z f h
+swept_trans k levels a b d x y z f g h p q = record {
   is_ref = q.is_ref;
   fewer = fewer-trans x y z p.fewer q.fewer;
-  stage = stage-trans (keys_of k) all_levels x y z (meaning a f) (meaning b g) (meaning d h) p.stage q.stage;
+  stage = stage-trans (keys_of k) levels x y z (meaning a f) (meaning b g) (meaning d h) p.stage q.stage;
 }
 
 -- what the next step finds
@@ -46,25 +51,24 @@ ready_on a b k e e2 x y ready keeps exact fewer = record {
 pub swept_key : (a b d : Diagram) (k : KeyedWorlds) (x y : List Bool) (place level made f r : ℕ) → AreKeys (keys_of k) → length x ≡ length k.keyed → place < length k.keyed → IsRef a f
     → level ≡ (key_at k.keyed place).level → Keeps a b → Represents b ((keys_of k).function place) made → FewerLeft x y → IsRef d r
     → ((all : Keys) → AreKeys all → all.count ≡ length x → IsExact b all place level made → IsStage all (λ level. false) x y (meaning b f) (meaning d r))
-    → IsSwept k a d x y f r
+    → IsSwept k no_levels a d x y f r
 swept_key a b d k x y place level made f r keys many less ref is keeps exact fewer new_ref stage =
     let same : meaning b f ≡ meaning a f = λ i v. keeps.meanings_stay f v ref i in
     let there : IsExact b (keys_of k) place level made = record { fits = less; same_level = sym is; represents = exact } in
     record {
       is_ref = new_ref;
       fewer = fewer;
-      stage = subst (λ F. IsStage (keys_of k) all_levels x y F (meaning d r)) same
-          (widen-none (keys_of k) all_levels x y (meaning b f) (meaning d r) (stage (keys_of k) keys (sym many) there));
+      stage = subst (λ F. IsStage (keys_of k) no_levels x y F (meaning d r)) same (stage (keys_of k) keys (sym many) there);
     }
 
 -- no key struck off
 pub struck_none : (k : KeyedWorlds) (used left : List Bool) → AreStruck k used left left
-struck_none k used left = record { fewer = fewer_refl left; stage = λ F ignores. stage-refl (keys_of k) all_levels left F }
+struck_none k used left = record { fewer = fewer_refl left; stage = λ F ignores. stage-refl (keys_of k) no_levels left F }
 
 pub struck_trans : (k : KeyedWorlds) (used x y z : List Bool) → AreStruck k used x y → AreStruck k used y z → AreStruck k used x z
 struck_trans k used x y z p q = record {
   fewer = fewer-trans x y z p.fewer q.fewer;
-  stage = λ F ignores. stage-trans (keys_of k) all_levels x y z F F F (p.stage F ignores) (q.stage F ignores);
+  stage = λ F ignores. stage-trans (keys_of k) no_levels x y z F F F (p.stage F ignores) (q.stage F ignores);
 }
 
 -- a key struck off
@@ -80,11 +84,11 @@ struck_one k used left place keys many less there un =
           | inr ne ↦ get_or-set_other left place i false false ne ∙ e
         ];
       };
-      stage = λ F ignores. stage-skip (keys_of k) all_levels left place F keys less (sym many) there (ignores (key_at k.keyed place).level un);
+      stage = λ F ignores. stage-skip (keys_of k) no_levels left place F keys less (sym many) there (ignores (key_at k.keyed place).level un);
     }
 
 pub swept_struck : (k : KeyedWorlds) (d : Diagram) (used x y : List Bool) (f : ℕ) → IsRef d f → AreStruck k used x y
-    → ((level : ℕ) → get_or used level false ≡ false → forgot.Ignores d f level) → IsSwept k d d x y f f
+    → ((level : ℕ) → get_or used level false ≡ false → forgot.Ignores d f level) → IsSwept k no_levels d d x y f f
 swept_struck k d used x y f ref struck ignores = record { is_ref = ref; fewer = struck.fewer; stage = struck.stage (meaning d f) ignores }
 
 turned : (m n : ℕ) → (n == m) ≡ (m == n)
@@ -95,11 +99,20 @@ same_in : (levels : List ℕ) (n : ℕ) → is_in levels n ≡ forgot.is_in leve
 same_in [] n = refl
 same_in (m ∷ ms) n = ap (λ b. b || is_in ms n) (turned m n) ∙ ap (λ b. (m == n) || b) (same_in ms n)
 
+-- values that differ in forgotten levels alone are the same on kept ones
+agree_kept : (levels : List ℕ) (kept a b values : ℕ → Bool) → ((level : ℕ) → is_in levels level ≡ true → kept level ≡ false)
+    → ((level : ℕ) → forgot.is_in levels level ≡ false → a level ≡ b level) → AgreeOn kept b values → AgreeOn kept a values
+agree_kept levels kept a b values none off on level there = by (is_in levels level) refl
+  where
+    by : (c : Bool) → is_in levels level ≡ c → a level ≡ values level
+    by true e = absurd (true≢false (sym there ∙ none level e))
+    by false e = off level (sym (same_in levels level) ∙ e) ∙ on level there
+
 -- levels forgotten that no key which is left depends on
-forget : (keys : Keys) (levels : List ℕ) (left : List Bool) (F R : (ℕ → Bool) → Bool) → ((i : ℕ) → i < keys.count → is_in levels (keys.level i) ≡ false)
+forget : (keys : Keys) (all : ℕ → Bool) (levels : List ℕ) (left : List Bool) (F R : (ℕ → Bool) → Bool) → ((level : ℕ) → is_in levels level ≡ true → all level ≡ true) → ((i : ℕ) → i < keys.count → is_in levels (keys.level i) ≡ false)
     → ((i : ℕ) → i < keys.count → is_left left i ≡ true → IgnoresAll (keys.function i) levels)
-    → ((v : ℕ → Bool) → (R v ≡ true) ↔ forgot.TrueOff F levels v) → IsStage keys all_levels left left F R
-forget keys levels left F R apart unread gone = record {
+    → ((v : ℕ → Bool) → (R v ≡ true) ↔ forgot.TrueOff F levels v) → IsStage keys all left left F R
+forget keys all levels left F R within apart unread gone = record {
   same = λ kept are v. (
     λ h. record {
       other = h.other;
@@ -111,7 +124,7 @@ forget keys levels left F R apart unread gone = record {
         let t : forgot.TrueOff F levels h.other = (gone h.other).0 h.holds in
         record {
           other = t.other;
-          agree = λ level there. absurd (true≢false (sym there ∙ are.others level refl));
+          agree = agree_kept levels kept t.other h.other v (λ level e. are.others level (within level e)) t.agree h.agree;
           lawful = λ i il there.
               t.agree (keys.level i) (sym (same_in levels (keys.level i)) ∙ apart i il)
               ∙ h.lawful i il there
@@ -122,13 +135,16 @@ forget keys levels left F R apart unread gone = record {
 }
 
 -- a cell forgotten
-pub swept_forget : (k : KeyedWorlds) (a b d : Diagram) (x y : List Bool) (cell f g r : ℕ) → AreKeyed k → IsSwept k a b x y f g
-    → ((i : ℕ) → i < length k.keyed → is_left y i ≡ true → IsUnread k cell i) → forgot.IsForgotten b d g (cell_levels k cell) r → IsSwept k a d x y f r
-swept_forget k a b d x y cell f g r are swept done gone = record {
-  is_ref = gone.is_ref;
+pub swept_forget : (k : KeyedWorlds) (kept : Option ℕ) (a b d : Diagram) (x y : List Bool) (cell f g r : ℕ) → AreKeyed k → is_kept kept cell ≡ false
+    → IsSwept k no_levels a b x y f g → ((i : ℕ) → i < length k.keyed → is_left y i ≡ true → IsUnread k cell i) → forgot.IsForgotten b d g (cell_levels k cell) r
+    → IsSwept k (all_but k kept) a d x y f r
+swept_forget k kept a b d x y cell f g r are other swept done forgotten = record {
+  is_ref = forgotten.is_ref;
   fewer = swept.fewer;
-  stage = stage-trans (keys_of k) all_levels x y y (meaning a f) (meaning b g) (meaning d r) swept.stage
-      (forget (keys_of k) (cell_levels k cell) y (meaning b g) (meaning d r) (λ i less. apart k cell i are less) done gone.means);
+  stage = stage-trans (keys_of k) (all_but k kept) x y y (meaning a f) (meaning b g) (meaning d r)
+      (widen-none (keys_of k) (all_but k kept) x y (meaning a f) (meaning b g) swept.stage)
+      (forget (keys_of k) (all_but k kept) (cell_levels k cell) y (meaning b g) (meaning d r) (λ level e. gone k kept cell level other e)
+      (λ i less. apart k cell i are less) done forgotten.means);
 }
 
 -- a key that is not left, or not read, stays so

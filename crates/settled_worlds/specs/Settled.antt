@@ -1,8 +1,11 @@
 -- Exact diagrams of the comparisons that have levels, and functions that are settled: false everywhere exactly where a function
 -- is false at all lawful values.
-use Rattle.std.specs.Prelude.{◌≡◌, ◌↔◌, ℕ, Bool, false, List, length, Option, Some, slice_get}
+use Rattle.std.specs.Prelude.{◌≡◌, ◌↔◌, ℕ, Bool, true, false, ◌&&◌, List, length, map, Option, Some, slice_get}
+use Rattle.free_levels.specs.Values.{is_in}
 use Rattle.bdd_core.specs.Diagram.{Diagram, IsRef, meaning}
 use Rattle.bdd_core.specs.Calls.{Represents}
+use Rattle.spelled_numbers.specs.Bits.{bits_of}
+use Rattle.world_levels.specs.Spelling.{cell_part}
 use Rattle.keyed_levels.specs.Keyed.{KeyedWorlds, Lawful, keys_of}
 
 -- for each key its exact diagram, where that has been made
@@ -14,3 +17,18 @@ pub record AreExact (d : Diagram) (k : KeyedWorlds) (exact : List (Option ℕ)) 
 pub record IsSettled (old new : Diagram) (k : KeyedWorlds) (f r : ℕ) : Type 0 where
   pub is_ref : IsRef new r
   pub none : ((values : ℕ → Bool) → meaning new r values ≡ false) ↔ ((values : ℕ → Bool) → Lawful k values → meaning old f values ≡ false)
+
+-- the levels of a cell
+abbrev pub cell_levels : KeyedWorlds → ℕ → List ℕ
+cell_levels k cell = map (λ t. t.level) (bits_of (cell_part k.base.spec cell) false k.slots 0)
+
+-- a test depends on these levels alone
+abbrev pub DependsOn : List ℕ → ((ℕ → Bool) → Bool) → Type 0
+DependsOn levels test = (one other : ℕ → Bool) → ((level : ℕ) → is_in levels level ≡ true → one level ≡ other level) → test one ≡ test other
+
+-- r tells of some levels what f does at lawful values: with each test of these levels alone it is true together somewhere exactly
+-- where f is, at some lawful values
+pub record IsProjected (old new : Diagram) (k : KeyedWorlds) (levels : List ℕ) (f r : ℕ) : Type 0 where
+  pub is_ref : IsRef new r
+  pub same : (test : (ℕ → Bool) → Bool) → DependsOn levels test → ((values : ℕ → Bool) → (meaning new r values && test values) ≡ false)
+      ↔ ((values : ℕ → Bool) → Lawful k values → (meaning old f values && test values) ≡ false)

@@ -21,11 +21,11 @@ impl Model for ExactKeys {
 
 impl ExactKeys {
     /// Room for so many keys, none of which is made.
-    pub fn new(alloc: Global, count: u32) -> Result<ExactKeys, NoMemory>
+    pub fn new(alloc: Global, count: usize) -> Result<ExactKeys, NoMemory>
         ensures { IfOk result (λ exact. exact ≡ replicate count None) }
     {
         Ok(ExactKeys {
-            made: vec![in alloc; None; count as usize]?,
+            made: vec![in alloc; None; count]?,
         })
     }
 

@@ -5,7 +5,7 @@ ghost use Rattle.bdd_core.specs.Diagram.{IsRef};
 ghost use Rattle.bdd_core.specs.Calls.{Keeps};
 ghost use Rattle.free_levels.specs.Stages.{is_left};
 ghost use Rattle.settled_worlds.specs.Settled.{AreExact};
-ghost use Rattle.settled_worlds.specs.Steps.{AreReady, IsOver, IsSwept, IsUnread};
+ghost use Rattle.settled_worlds.specs.Steps.{no_levels, AreReady, IsOver, IsSwept, IsUnread};
 
 use crate::comparisons::exact_of;
 use crate::exact_keys::ExactKeys;
@@ -35,7 +35,7 @@ pub(crate) fn make_key_exact(
     ensures keeps { Keeps arena.old arena.new }
     ensures exact { AreExact arena.new levels.now exact.new }
     ensures done { IfOk result (λ r. is_left left.new.items place ≡ false) }
-    ensures answer { IfOk result (IsSwept levels.now arena.old arena.new left.old.items left.new.items f) }
+    ensures answer { IfOk result (IsSwept levels.now no_levels arena.old arena.new left.old.items left.new.items f) }
 {
     if !left[place] {
         return Ok(f);
@@ -64,7 +64,7 @@ pub(crate) fn make_reader_exact(
     ensures keeps { Keeps arena.old arena.new }
     ensures exact { AreExact arena.new levels.now exact.new }
     ensures done { IfOk result (λ r. is_left left.new.items place ≡ true → IsUnread levels.now cell place) }
-    ensures answer { IfOk result (IsSwept levels.now arena.old arena.new left.old.items left.new.items f) }
+    ensures answer { IfOk result (IsSwept levels.now no_levels arena.old arena.new left.old.items left.new.items f) }
 {
     if !reads(levels, place, cell) {
         return Ok(f);
@@ -87,7 +87,7 @@ pub(crate) fn make_rest_exact(
     ensures keeps { Keeps arena.old arena.new }
     ensures exact { AreExact arena.new levels.now exact.new }
     ensures over { IfOk result (IsOver levels.now arena.new left.new.items) }
-    ensures answer { IfOk result (IsSwept levels.now arena.old arena.new left.old.items left.new.items f) }
+    ensures answer { IfOk result (IsSwept levels.now no_levels arena.old arena.new left.old.items left.new.items f) }
 {
     let mut out = f;
     for place in 0..levels.keys().len() {

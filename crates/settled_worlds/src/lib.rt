@@ -13,4 +13,4 @@ mod striking;
 mod sweeping;
 
 pub use exact_keys::ExactKeys;
-pub use settling::settle;
+pub use settling::{project, settle};

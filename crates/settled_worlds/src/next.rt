@@ -1,7 +1,8 @@
 //! The choice of the next cell.
-ghost use Rattle.std.specs.Prelude.{◌≡◌, ◌<◌, ◌≤◌, IfOk, IfSome, OnOk, length};
+ghost use Rattle.std.specs.Prelude.{◌≡◌, ◌<◌, ◌≤◌, false, IfOk, IfSome, OnOk, length};
 ghost use Rattle.rsml_meaning.specs.Cells.{cells};
 ghost use Rattle.rsml_meaning.specs.Cells as spec;
+ghost use Rattle.settled_worlds.specs.Steps as steps;
 
 use crate::parts::cell_bits;
 use crate::reading::cells_of;
@@ -11,20 +12,21 @@ use rsml_base::NoMemory;
 use std::alloc::Global;
 
 /// The cell that some key that is left reads, and for which the cells of the keys that read it and those that stand in the
-/// function already are fewest: the last of several. None where no key that is left reads a cell.
+/// function already are fewest: the last of several. It is not the one that is kept. None where no key that is left reads another.
 pub(crate) fn next_cell(
     alloc: Global,
     levels: &KeyedLevels<'_, '_>,
     left: &[bool],
     used: &[bool],
+    kept: Option<u32>,
 ) -> Result<Option<u32>, NoMemory>
     requires { length left.now ≡ length levels.now.keyed }
-    ensures { IfOk result (λ next. IfSome next (λ cell. cell < length (cells levels.now.base.spec))) }
+    ensures { IfOk result (λ next. IfSome next (λ cell. (cell < length (cells levels.now.base.spec)) × (steps.is_kept kept cell ≡ false))) }
 {
     let cells = levels.layout().cells();
     let beside = beside(alloc, levels, left, cells)?;
     let standing = standing(alloc, levels, used, cells)?;
-    fewest(alloc, beside.as_slice(), standing.as_slice(), cells)
+    fewest(alloc, beside.as_slice(), standing.as_slice(), kept, cells)
 }
 
 /// For each of the cells those that the keys name that are left and read it, as often as they do.
@@ -101,15 +103,17 @@ fn stands(levels: &KeyedLevels<'_, '_>, used: &[bool], cell: u32) -> bool
         .any(|bit| is_used(used, bit.level))
 }
 
-/// The cell with some others beside it, of which the fewest do not stand in the function: the last of several.
+/// The cell with some others beside it, of which the fewest do not stand in the function: the last of several, and not the one
+/// that is kept.
 fn fewest(
     alloc: Global,
     beside: &[Vec<u32>],
     standing: &[bool],
+    kept: Option<u32>,
     cells: u32,
 ) -> Result<Option<u32>, NoMemory>
     requires { length beside.now ≡ cells }
-    ensures { IfOk result (λ best. IfSome best (λ cell. cell < cells)) }
+    ensures { IfOk result (λ best. IfSome best (λ cell. (cell < cells) × (steps.is_kept kept cell ≡ false))) }
 {
     let mut counted = vec![in alloc; None; cells as usize]?;
     let mut best = None;
@@ -117,12 +121,22 @@ fn fewest(
     for cell in 0..cells {
         let others = beside[cell as usize].as_slice();
         let count = fresh(others, standing, &mut counted, cell);
-        if !others.is_empty() && count <= least {
+        if !is_kept(kept, cell) && !others.is_empty() && count <= least {
             best = Some(cell);
             least = count;
         }
     }
     Ok(best)
+}
+
+/// Whether a cell is the one that is kept.
+fn is_kept(kept: Option<u32>, cell: u32) -> bool
+    ensures { result ≡ steps.is_kept kept cell }
+{
+    match kept {
+        Some(kept) => kept == cell,
+        None => false,
+    }
 }
 
 /// How many different ones of these cells do not stand in the function.

@@ -5,7 +5,7 @@ ghost use Rattle.spelled_numbers.specs.Bits.{bits_of};
 ghost use Rattle.world_levels.specs.Spelling.{cell_part};
 ghost use Rattle.bdd_core.specs.Diagram.{IsRef};
 ghost use Rattle.bdd_core.specs.Calls.{Keeps, IsForgotten};
-ghost use Rattle.settled_worlds.specs.Steps.{cell_levels};
+ghost use Rattle.settled_worlds.specs.Settled.{cell_levels};
 
 use bdd_core::{Arena, Ref};
 use keyed_levels::KeyedLevels;

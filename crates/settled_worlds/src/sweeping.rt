@@ -1,12 +1,12 @@
 //! Cells swept one after another.
-ghost use Rattle.std.specs.Prelude.{◌≡◌, ◌<◌, IfOk, IfSome, length};
+ghost use Rattle.std.specs.Prelude.{◌≡◌, ◌<◌, false, IfOk, IfSome, length};
 ghost use Rattle.rsml_meaning.specs.Cells.{cells};
 ghost use Rattle.bdd_core.specs.Diagram.{IsRef};
 ghost use Rattle.bdd_core.specs.Calls.{Keeps};
 ghost use Rattle.free_levels.specs.Keys.{AreKeys};
 ghost use Rattle.keyed_levels.specs.Keyed.{keys_of};
 ghost use Rattle.settled_worlds.specs.Settled.{AreExact};
-ghost use Rattle.settled_worlds.specs.Steps.{AreReady, IsSwept};
+ghost use Rattle.settled_worlds.specs.Steps.{all_but, is_kept, no_levels, AreReady, IsSwept};
 
 use crate::exact_keys::ExactKeys;
 use crate::keys::make_reader_exact;
@@ -19,7 +19,7 @@ use linear_bits::SumTable;
 use rsml_base::NoMemory;
 use std::alloc::Global;
 
-/// Cells swept until no key that is left reads one, or the function is false.
+/// Cells swept, but one that is kept, until no key that is left reads one, or the function is false.
 pub(crate) fn sweep_cells(
     alloc: Global,
     arena: &mut Arena,
@@ -27,19 +27,22 @@ pub(crate) fn sweep_cells(
     levels: &KeyedLevels<'_, '_>,
     exact: &mut ExactKeys,
     left: &mut Vec<bool>,
+    kept: Option<u32>,
     f: Ref,
 ) -> Result<Ref, NoMemory>
     requires ready { AreReady arena.old levels.now exact.old left.old.items }
     requires f_ref { IsRef arena.old f }
     ensures keeps { Keeps arena.old arena.new }
     ensures exact { AreExact arena.new levels.now exact.new }
-    ensures answer { IfOk result (IsSwept levels.now arena.old arena.new left.old.items left.new.items f) }
+    ensures answer { IfOk result (IsSwept levels.now (all_but levels.now kept) arena.old arena.new left.old.items left.new.items f) }
 {
     let mut out = f;
     for _turn in 0..levels.layout().cells() {
-        match choose_cell(alloc, arena, levels, left, out)? {
+        match choose_cell(alloc, arena, levels, left, kept, out)? {
             None => return Ok(out),
-            Some(cell) => out = sweep_cell(alloc, arena, sums, levels, exact, left, cell, out)?,
+            Some(cell) => {
+                out = sweep_cell(alloc, arena, sums, levels, exact, left, kept, cell, out)?
+            }
         }
     }
     Ok(out)
@@ -53,21 +56,22 @@ fn choose_cell(
     arena: &Arena,
     levels: &KeyedLevels<'_, '_>,
     left: &mut Vec<bool>,
+    kept: Option<u32>,
     f: Ref,
 ) -> Result<Option<u32>, NoMemory>
     requires keys { AreKeys (keys_of levels.now) }
     requires room { arena.now.levels ≡ length levels.now.slots }
     requires many { length left.old.items ≡ length levels.now.keyed }
     requires f_ref { IsRef arena.now f }
-    ensures cell { IfOk result (λ next. IfSome next (λ cell. cell < length (cells levels.now.base.spec))) }
-    ensures struck { IsSwept levels.now arena.now arena.now left.old.items left.new.items f f }
+    ensures cell { IfOk result (λ next. IfSome next (λ cell. (cell < length (cells levels.now.base.spec)) × (is_kept kept cell ≡ false))) }
+    ensures struck { IsSwept levels.now no_levels arena.now arena.now left.old.items left.new.items f f }
 {
     if arena.is_false(f) {
         return Ok(None);
     }
     let used = used_levels(alloc, arena, levels.layout().levels(), f)?;
     strike(levels, used.as_slice(), left);
-    next_cell(alloc, levels, left.as_slice(), used.as_slice())
+    next_cell(alloc, levels, left.as_slice(), used.as_slice(), kept)
 }
 
 /// The keys that read a cell made exact, and then its levels forgotten. A function that is false before that is the answer.
@@ -78,15 +82,17 @@ fn sweep_cell(
     levels: &KeyedLevels<'_, '_>,
     exact: &mut ExactKeys,
     left: &mut Vec<bool>,
+    kept: Option<u32>,
     cell: u32,
     f: Ref,
 ) -> Result<Ref, NoMemory>
     requires ready { AreReady arena.old levels.now exact.old left.old.items }
     requires f_ref { IsRef arena.old f }
     requires cell { cell < length (cells levels.now.base.spec) }
+    requires other { is_kept kept cell ≡ false }
     ensures keeps { Keeps arena.old arena.new }
     ensures exact { AreExact arena.new levels.now exact.new }
-    ensures answer { IfOk result (IsSwept levels.now arena.old arena.new left.old.items left.new.items f) }
+    ensures answer { IfOk result (IsSwept levels.now (all_but levels.now kept) arena.old arena.new left.old.items left.new.items f) }
 {
     let mut out = f;
     for place in 0..levels.keys().len() {

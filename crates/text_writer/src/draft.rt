@@ -44,10 +44,11 @@ impl Draft {
 
 impl Writer for Draft {
     ghost use Rattle.std.specs.Prelude.{Some};
+    ghost use Rattle.text_writer.specs.DraftState.{writer_state};
 
     ghost text = { λ draft. Some draft.text };
 
-    ghost whole = { λ draft. draft.whole };
+    ghost state = { λ draft. writer_state draft };
 
     fn put(&mut self, bytes: &[u8]) {
         if self.whole && self.text.extend_from_slice(bytes).is_err() {

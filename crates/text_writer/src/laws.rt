@@ -1,6 +1,6 @@
 ghost use Rattle.text_writer.specs.Laws.{NothingChangesNothing, PiecesAreOne};
 
-/// To write no bytes leaves a writer whole and its text as it was, and a refused one refused.
+/// To write no bytes leaves the text as it was, a whole writer whole, and a refused one refused.
 pub fn writing_nothing_changes_nothing()
     ensures { NothingChangesNothing }
 {}

@@ -5,3 +5,4 @@ pub mod SumLemmas
 pub mod TellLemmas
 pub mod CompareLemmas
 pub mod FarLemmas
+pub mod OrderLemmas

@@ -10,6 +10,7 @@ ghost use Rattle.world_sums.specs.Tells.{Tells};
 ghost use Rattle.world_sums.specs.Terms.{sum_levels};
 
 use crate::bases::sum_base;
+use crate::levels::compare_levels;
 use crate::terms::push_sum;
 use bdd_core::{Arena, Ref};
 use linear_bits::{Comparison, SumTable, Weighted};
@@ -39,7 +40,7 @@ pub fn compare(
     layout.law();
     let levels = difference(alloc, layout, left, right)?;
     let constant = sum_base(layout, right) - sum_base(layout, left);
-    sums.compare(arena, levels.as_slice(), comparison_of(relation), constant)
+    compare_levels(arena, sums, levels, comparison_of(relation), constant)
 }
 
 /// The levels of one sum, and those of another taken off.

@@ -7,6 +7,7 @@ mod bounds;
 mod cells;
 mod choices;
 mod comparisons;
+mod levels;
 mod numbers;
 mod terms;
 

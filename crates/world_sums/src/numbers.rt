@@ -11,6 +11,7 @@ ghost use Rattle.world_sums.specs.Tells.{Tells};
 
 use crate::bases::sum_base;
 use crate::comparisons::comparison_of;
+use crate::levels::compare_levels;
 use crate::terms::push_sum;
 use bdd_core::{Arena, Ref};
 use linear_bits::SumTable;
@@ -43,7 +44,7 @@ pub fn compare_number(
     let mut levels = Vec::new(alloc);
     push_sum(&mut levels, layout, sum, false)?;
     let constant = nearest(number) - sum_base(layout, sum);
-    sums.compare(arena, levels.as_slice(), comparison_of(relation), constant)
+    compare_levels(arena, sums, levels, comparison_of(relation), constant)
 }
 
 /// The number, or the nearest one that is not too far from 0: no sum tells them apart.

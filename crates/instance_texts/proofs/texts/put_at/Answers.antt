@@ -11,4 +11,4 @@ pub returns-in-None : goal.returns-in-None
 returns-in-None g c =
     let past : length c.args.listed.now ≤ c.args.place = let b = c.in-None.ensures.lookup in grind (arith, nat_tests, b) in
     alike (text_past instance_of instance_text c.args.listed.now c.args.place (slice_get_past c.args.listed.now c.args.place past))
-    (still (g.W.Writer.whole c.args.writer.now) (g.W.Writer.text c.args.writer.now))
+    (still (g.W.Writer.state c.args.writer.now) (g.W.Writer.text c.args.writer.now))

@@ -1,4 +1,4 @@
-use Rattle.rsml.proofs.OutcomeLemmas.{unread_output, broken_output, unbuilt_output, refused_output, certified_output}
+use Rattle.rsml.proofs.OutcomeLemmas.{unread_output, broken_output, refused_output, certified_output}
 use Rattle.rsml.proofs.outcome.judged.Goals as goal
 
 pub returns-in-Unread-clause-output : goal.returns-in-Unread-clause-output
@@ -6,9 +6,6 @@ returns-in-Unread-clause-output c = λ text h. unread_output text _ _ _ c.in-Unr
 
 pub returns-in-Broken-clause-output : goal.returns-in-Broken-clause-output
 returns-in-Broken-clause-output c = λ text h. broken_output text _ _ _ c.in-Broken.is h c.with_text-in-Broken.ensures.status c.with_text-in-Broken.ensures.text
-
-pub returns-in-NotBuilt-clause-output : goal.returns-in-NotBuilt-clause-output
-returns-in-NotBuilt-clause-output c = λ text h. unbuilt_output text _ _ c.in-NotBuilt.is h c.not_built.ensures.status c.not_built.ensures.text
 
 pub returns-in-Refused-clause-output : goal.returns-in-Refused-clause-output
 returns-in-Refused-clause-output c = λ text h. refused_output text _ _ _ c.in-Refused.is h c.with_text-in-Refused.ensures.status c.with_text-in-Refused.ensures.text

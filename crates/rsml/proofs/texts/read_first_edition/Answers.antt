@@ -8,7 +8,7 @@ use Rattle.rsml.proofs.texts.read_first_edition.Goals as goal
 pub returns-in_ok-tokens-in-Ok : goal.returns-in_ok-tokens-in-Ok
 returns-in_ok-tokens-in-Ok c =
     firsts_read _ c.in-Ok.tokens.items c.in_ok-tokens-in-Ok.tokens.items _ c.requires c.in-Ok.ensures.ok
-    (subst (λ (ts : List Placed). IsRenamed ts c.in_ok-tokens-in-Ok.tokens.items) c.as_slice.ensures.value c.in_ok-tokens-in-Ok.ensures.renamed) (search (rules, c.read_tokens.ensures, c.as_slice-in-Ok.ensures.value))
+    (subst (λ (ts : List Placed). IsRenamed ts c.in_ok-tokens-in-Ok.tokens.items) c.as_slice.ensures.value c.in_ok-tokens-in-Ok.ensures.renamed) (search (rules, c.read_tokens.ensures.read, c.as_slice-in-Ok.ensures.value))
 
 pub returns-in_ok-lexical_fault-in-Err : goal.returns-in_ok-lexical_fault-in-Err
 returns-in_ok-lexical_fault-in-Err c =

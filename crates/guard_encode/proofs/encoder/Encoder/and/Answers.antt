@@ -8,7 +8,7 @@ use Rattle.guard_encode.proofs.encoder.Encoder.and.Goals as goal
 
 pub invariant_of-self : goal.invariant_of-self
 invariant_of-self c =
-    encoded_stay c.self.inside.machine.now c.self.inside.levels c.self.inside.arena c.and.new.self c.self.inside.active.items c.self.inside.phrases.items c.and.ensures.keeps c.self.invariant
+    encoded_stay _ _ _ c.and.new.self _ c.and.ensures.keeps c.self.invariant
 
 pub returns-clause-answer : goal.returns-clause-answer
 returns-clause-answer c =
@@ -17,3 +17,8 @@ returns-clause-answer c =
     (λ r h one other a b. and_tells c.self.inside.machine.now c.self.inside.levels old c.and.new.self c.args.f c.args.g r one other h
     (subst (λ (e : Encoding). Tells e one c.args.f) (sym c.self.view_is) a) (subst (λ (e : Encoding). Tells e other c.args.g) (sym c.self.view_is) b))
     c.and.ensures.answer
+
+pub returns-clause-is_ref : goal.returns-clause-is_ref
+returns-clause-is_ref c =
+    let old = c.self.inside.arena in
+    IfOk-weaker c.and.result (Represents c.and.new.self (λ v. meaning old c.args.f v && meaning old c.args.g v)) _ (λ r h. h.is_ref) c.and.ensures.answer

@@ -7,7 +7,7 @@ use Rattle.guard_encode.proofs.encoder.Encoder.at_most.Goals as goal
 
 pub invariant_of-self : goal.invariant_of-self
 invariant_of-self c =
-    encoded_stay c.self.inside.machine.now c.self.inside.levels c.self.inside.arena c.at_most.new.arena c.self.inside.active.items c.self.inside.phrases.items c.at_most.ensures.keeps c.self.invariant
+    encoded_stay _ _ _ c.at_most.new.arena _ c.at_most.ensures.keeps c.self.invariant
 
 pub returns-clause-answer : goal.returns-clause-answer
 returns-clause-answer c =

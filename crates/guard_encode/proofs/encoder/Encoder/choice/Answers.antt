@@ -6,7 +6,7 @@ use Rattle.guard_encode.proofs.encoder.Encoder.choice.Goals as goal
 
 pub invariant_of-self : goal.invariant_of-self
 invariant_of-self c =
-    encoded_stay c.self.inside.machine.now c.self.inside.levels c.self.inside.arena c.choice.new.arena c.self.inside.active.items c.self.inside.phrases.items c.choice.ensures.keeps c.self.invariant
+    encoded_stay _ _ _ c.choice.new.arena _ c.choice.ensures.keeps c.self.invariant
 
 pub returns-clause-answer : goal.returns-clause-answer
 returns-clause-answer c =

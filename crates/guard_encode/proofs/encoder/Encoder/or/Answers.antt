@@ -8,7 +8,7 @@ use Rattle.guard_encode.proofs.encoder.Encoder.or.Goals as goal
 
 pub invariant_of-self : goal.invariant_of-self
 invariant_of-self c =
-    encoded_stay c.self.inside.machine.now c.self.inside.levels c.self.inside.arena c.or.new.self c.self.inside.active.items c.self.inside.phrases.items c.or.ensures.keeps c.self.invariant
+    encoded_stay _ _ _ c.or.new.self _ c.or.ensures.keeps c.self.invariant
 
 pub returns-clause-answer : goal.returns-clause-answer
 returns-clause-answer c =
@@ -17,3 +17,8 @@ returns-clause-answer c =
     (λ r h one other a b. or_tells c.self.inside.machine.now c.self.inside.levels old c.or.new.self c.args.f c.args.g r one other h
     (subst (λ (e : Encoding). Tells e one c.args.f) (sym c.self.view_is) a) (subst (λ (e : Encoding). Tells e other c.args.g) (sym c.self.view_is) b))
     c.or.ensures.answer
+
+pub returns-clause-is_ref : goal.returns-clause-is_ref
+returns-clause-is_ref c =
+    let old = c.self.inside.arena in
+    IfOk-weaker c.or.result (Represents c.or.new.self (λ v. meaning old c.args.f v || meaning old c.args.g v)) _ (λ r h. h.is_ref) c.or.ensures.answer

@@ -25,4 +25,4 @@ pub returns-in-None : goal.returns-in-None
 returns-in-None g c =
     let known = globals_of c.args.self.now in
     alike (ap (λ (o : Option Value). option_map_or (λ value. value_text (names_of_kind known (value_kind known value)) c.args.number) o []) c.in-None.ensures)
-    (still (g.W.Writer.whole c.args.writer.now) (g.W.Writer.text c.args.writer.now))
+    (still (g.W.Writer.state c.args.writer.now) (g.W.Writer.text c.args.writer.now))

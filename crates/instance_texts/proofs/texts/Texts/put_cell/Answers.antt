@@ -18,4 +18,4 @@ pub returns-in-None : goal.returns-in-None
 returns-in-None g c =
     let all : c.deref.result.now ≡ map without_first (cells c.args.self.now) = c.deref.ensures.value ∙ c.self.invariant.are_cells ∙ ap (λ (s : Spec). map without_first (cells s)) c.self.view_is in
     let past : length c.deref.result.now ≤ c.args.number = let b = c.in-None.ensures.lookup in grind (arith, nat_tests, b) in
-    alike (cell_past cell_text (cells c.args.self.now) c.deref.result.now c.args.number all past) (still (g.W.Writer.whole c.args.writer.now) (g.W.Writer.text c.args.writer.now))
+    alike (cell_past cell_text (cells c.args.self.now) c.deref.result.now c.args.number all past) (still (g.W.Writer.state c.args.writer.now) (g.W.Writer.text c.args.writer.now))

@@ -22,4 +22,4 @@ pub returns-in-None : goal.returns-in-None
 returns-in-None g c =
     let all : c.deref.result.now ≡ map without_first (cells c.args.self.now) = c.deref.ensures.value ∙ c.self.invariant.are_cells ∙ ap (λ (s : Spec). map without_first (cells s)) c.self.view_is in
     let past : length c.deref.result.now ≤ c.args.cell = let b = c.in-None.ensures.lookup in grind (arith, nat_tests, b) in
-    alike (cell_past (λ d. value_text d.numbers.names c.args.number) (cells c.args.self.now) c.deref.result.now c.args.cell all past) (still (g.W.Writer.whole c.args.writer.now) (g.W.Writer.text c.args.writer.now))
+    alike (cell_past (λ d. value_text d.numbers.names c.args.number) (cells c.args.self.now) c.deref.result.now c.args.cell all past) (still (g.W.Writer.state c.args.writer.now) (g.W.Writer.text c.args.writer.now))

@@ -1,0 +1,9 @@
+pub mod Parts
+pub mod Narrowed
+pub mod LeastChild
+pub mod LeastNumber
+pub mod Kept
+pub mod ListSteps
+pub mod ChildSteps
+pub mod BoundSteps
+pub mod WorldStep

@@ -1,0 +1,9 @@
+//! The least world in which a function of an encoder is true.
+#![tactic(auto)]
+
+mod cells;
+mod choices;
+mod least;
+mod passing;
+
+pub use least::least_world;

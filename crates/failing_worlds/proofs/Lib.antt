@@ -1,0 +1,11 @@
+pub mod PairLemmas
+pub mod BusLemmas
+pub mod SourceLemmas
+pub mod OrderLemmas
+pub mod LineLemmas
+pub mod CountLemmas
+pub mod AtLemmas
+pub mod MemberLemmas
+pub mod CountsLemmas
+pub mod TurnLemmas
+pub mod FailLemmas

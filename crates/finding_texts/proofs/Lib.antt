@@ -1,0 +1,9 @@
+pub mod CellCounts
+pub mod CellLines
+pub mod Chosen
+pub mod EnabledLemmas
+pub mod EnabledLines
+pub mod KindTexts
+pub mod Labels
+pub mod Pairs
+pub mod Worlds

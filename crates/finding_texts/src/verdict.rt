@@ -1,0 +1,12 @@
+use rsml_syntax::World;
+
+/// What is found of a group.
+#[derive(Debug, Drop)]
+pub enum Verdict {
+    /// In every world that meets its condition exactly one member is enabled.
+    Sound,
+    /// No member is enabled in some world that meets the condition: this is the least.
+    Missing(World),
+    /// One member at least is enabled in every world that meets the condition, and in some two or more: of these this is the least.
+    Double(World),
+}

@@ -1,0 +1,3 @@
+pub mod FailLemmas
+pub mod FoundLemmas
+pub mod ListLemmas

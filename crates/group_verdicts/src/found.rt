@@ -1,0 +1,53 @@
+ghost use Rattle.std.specs.Prelude.{◌≡◌, ◌<◌, IfOk, Some, length, map, slice_get};
+ghost use Rattle.std.specs.List.{AllZip};
+ghost use Rattle.rsml_meaning.specs.Findings.{IsVerdict};
+ghost use Rattle.rsml_meaning.specs.Groups.{Group, groups};
+ghost use Rattle.guard_encode.specs.Encoding.{Keeps};
+ghost use Rattle.failing_worlds.specs.Counts.{AreCounts};
+ghost use Rattle.finding_texts.specs.Verdicts.{verdict_of};
+
+use counterexample::least_world;
+use elaborate::Machine;
+use failing_worlds::{Counts, none_enabled, two_enabled};
+use finding_texts::Verdict;
+use guard_encode::Encoder;
+use rsml_base::NoMemory;
+use std::alloc::Global;
+
+/// What is found of each group of a machine, in order. The only error is out of memory.
+pub fn verdicts(alloc: Global, machine: &Machine<'_>) -> Result<Vec<Verdict>, NoMemory>
+    ensures { IfOk result (λ v. AllZip (IsVerdict machine.now.base.spec) (groups machine.now.base.spec) (map verdict_of v.items)) }
+{
+    let mut encoder = Encoder::new(alloc, machine)?;
+    let mut counts = Counts::new(alloc, machine)?;
+    let mut verdicts = Vec::new(alloc);
+    for group in 0..machine.groups().count() {
+        verdicts.push(verdict(alloc, &mut encoder, &mut counts, group)?)?;
+    }
+    Ok(verdicts)
+}
+
+/// What is found of a group.
+fn verdict(
+    alloc: Global,
+    encoder: &mut Encoder<'_, '_>,
+    counts: &mut Counts,
+    group: u32,
+) -> Result<Verdict, NoMemory>
+    requires group { group < length (groups encoder.old.machine.base.spec) }
+    requires counts { AreCounts encoder.old counts.old }
+    ensures keeps { Keeps encoder.old encoder.new }
+    ensures counts { AreCounts encoder.new counts.new }
+    ensures found { IfOk result (λ v. (g : Group) → slice_get (groups encoder.new.machine.base.spec) group ≡ Some g
+        → IsVerdict encoder.new.machine.base.spec g (verdict_of v)) }
+{
+    let none = none_enabled(alloc, encoder, counts, group)?;
+    if let Some(world) = least_world(alloc, encoder, none)? {
+        return Ok(Verdict::Missing(world));
+    }
+    let two = two_enabled(alloc, encoder, counts, group)?;
+    if let Some(world) = least_world(alloc, encoder, two)? {
+        return Ok(Verdict::Double(world));
+    }
+    Ok(Verdict::Sound)
+}

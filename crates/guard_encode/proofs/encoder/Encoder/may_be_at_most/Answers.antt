@@ -1,0 +1,27 @@
+use Rattle.std.proofs.Common.{◌≡◌, ℕ, Bool, true, false, not, ◌&&◌, refl, sym, ap, ◌∙◌, subst, true≢false, w64, rules, FitsSigned}
+use Rattle.std.proofs.lemmas.Int.{to_z-of_z}
+use Rattle.bdd_core.specs.Diagram.{meaning}
+use Rattle.guard_encode.specs.Encoding.{is_at_most, worlds_of}
+use Rattle.guard_encode.proofs.CellLemmas.{asked}
+use Rattle.guard_encode.proofs.encoder.Encoder.may_be_at_most.Goals as goal
+
+not_false : (b : Bool) → b ≡ true → not b ≡ false
+not_false b e = ap not e
+
+was_true : (b : Bool) → not b ≡ false → b ≡ true
+was_true true e = refl
+was_true false e = absurd (true≢false e)
+
+pub returns-clause-answer : goal.returns-clause-answer
+returns-clause-answer c = λ truth of.
+    let e = c.args.self.now in
+    let r = c.args.r in
+    let fits : FitsSigned w64 c.args.number = search rules in
+    let below : (v : ℕ → Bool) → meaning c.below.new.self.diagram c.in_ok-below.below v ≡ is_at_most (worlds_of e) c.args.cell c.args.number v =
+    subst (λ n. (v : ℕ → Bool) → meaning c.below.new.self.diagram c.in_ok-below.below v ≡ is_at_most (worlds_of e) c.args.cell n v) (to_z-of_z w64 c.args.number fits) c.in_ok-below.ensures.answer.means in
+    let same : (v : ℕ → Bool) → meaning c.both.new.self.diagram c.in_ok-both.both v ≡ (meaning e.diagram r v && is_at_most (worlds_of e) c.args.cell c.args.number v) =
+    λ v. c.in_ok-both.ensures.answer.means v ∙ (λ i. c.below.ensures.keeps.diagram.meanings_stay r v c.requires.r_ref i && below v i) in
+    let question = asked c.keyed_laws.ensures.each c.keyed_laws.ensures.worlds e c.args.cell c.args.number truth r c.in_ok-below.ensures.keyed of in (
+      λ no_world. question.0 (λ v. sym (same v) ∙ c.is_false.ensures.0 (was_true c.is_false.result no_world) v),
+      λ never. not_false c.is_false.result (c.is_false.ensures.1 (λ v. same v ∙ question.1 never v)),
+    )

@@ -1,0 +1,61 @@
+//! Functions that are true of no world.
+ghost use Rattle.std.specs.Prelude.{Bool, IfOk, IsTrue};
+ghost use Rattle.rsml_syntax.specs.declared.world.World.{World};
+ghost use Rattle.bdd_core.specs.Diagram.{IsRef};
+ghost use Rattle.keyed_levels.specs.Keyed.{AreKeyed};
+ghost use Rattle.settled_worlds.specs.Settled.{IsSettled};
+ghost use Rattle.guard_encode.specs.Encoding.{Keeps, Tells, TellsExactly, worlds_of};
+
+use crate::encoder::Encoder;
+use bdd_core::Ref;
+use keyed_levels::keyed_laws;
+use rsml_base::NoMemory;
+use settled_worlds::settle;
+use std::alloc::Global;
+
+impl<'m, 'a> Encoder<'m, 'a> {
+    /// `f` itself, or where it is true of no world the function that is false everywhere.
+    pub fn decided(&mut self, alloc: Global, f: Ref) -> Result<Ref, NoMemory>
+        requires { IsRef self.old.diagram f }
+        ensures keeps { Keeps self.old self.new }
+        ensures is_ref { IfOk result (IsRef self.new.diagram) }
+        ensures answer { IfOk result (λ r. (truth : World → Bool) → Tells self.old truth f → TellsExactly self.new truth r) }
+    {
+        keyed_laws();
+        if self.is_exact(f) {
+            return Ok(f);
+        }
+        let settled = self.settled(alloc, f)?;
+        if self.is_false(settled) {
+            Ok(settled)
+        } else {
+            Ok(f)
+        }
+    }
+
+    /// Whether there is nothing to settle: no level stands for a comparison, or the function is false everywhere.
+    fn is_exact(&self, f: Ref) -> bool
+        requires { IsRef self.now.diagram f }
+        ensures { IsTrue result → (truth : World → Bool) → Tells self.now truth f → TellsExactly self.now truth f }
+    {
+        keyed_laws();
+        self.levels.keys().is_empty() || self.arena.is_false(f)
+    }
+
+    /// A function that is false everywhere exactly where `f` is false at all lawful values.
+    fn settled(&mut self, alloc: Global, f: Ref) -> Result<Ref, NoMemory>
+        requires { IsRef self.old.diagram f }
+        ensures keeps { Keeps self.old self.new }
+        ensures keyed { AreKeyed (worlds_of self.old) }
+        ensures answer { IfOk result (IsSettled self.old.diagram self.new.diagram (worlds_of self.old) f) }
+    {
+        settle(
+            alloc,
+            &mut self.arena,
+            &mut self.sums,
+            &self.levels,
+            &mut self.exact,
+            f,
+        )
+    }
+}

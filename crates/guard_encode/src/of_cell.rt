@@ -1,0 +1,88 @@
+//! What functions tell of one cell.
+ghost use Rattle.std.specs.Prelude.{◌≡◌, ◌<◌, ◌↔◌, ◌&&◌, Bool, false, IfOk, int_le, length, pos, slice_index_or};
+ghost use Rattle.rsml_syntax.specs.declared.world.World.{World};
+ghost use Rattle.rsml_meaning.specs.Cells.{cells};
+ghost use Rattle.rsml_meaning.specs.Worlds.{IsWorld};
+ghost use Rattle.bdd_core.specs.Diagram.{IsRef, meaning};
+ghost use Rattle.bdd_core.specs.Calls.{Represents};
+ghost use Rattle.keyed_levels.specs.Keyed.{AreKeyed};
+ghost use Rattle.settled_worlds.specs.Settled.{cell_levels, IsProjected};
+ghost use Rattle.guard_encode.specs.Encoding.{IsOfCell, Keeps, Tells, is_at_most, worlds_of};
+
+use crate::encoder::Encoder;
+use bdd_core::Ref;
+use keyed_levels::keyed_laws;
+use rsml_base::NoMemory;
+use settled_worlds::project;
+use std::alloc::Global;
+
+impl<'m, 'a> Encoder<'m, 'a> {
+    /// What `f` tells of one cell. Where its numbers are asked for one after another, comparisons of other cells are looked at once.
+    pub fn of_cell(&mut self, alloc: Global, f: Ref, cell: u32) -> Result<Ref, NoMemory>
+        requires f_ref { IsRef self.old.diagram f }
+        requires cell { cell < length (cells self.old.machine.base.spec) }
+        ensures keeps { Keeps self.old self.new }
+        ensures is_ref { IfOk result (IsRef self.new.diagram) }
+        ensures answer { IfOk result (λ r. (truth : World → Bool) → Tells self.old truth f → IsOfCell self.new cell truth r) }
+    {
+        self.projected(alloc, f, cell)
+    }
+
+    /// Whether what is told of a cell is true of some world in which the cell has at most this number.
+    pub fn may_be_at_most(&mut self, r: Ref, cell: u32, number: i64) -> Result<bool, NoMemory>
+        requires r_ref { IsRef self.old.diagram r }
+        requires cell { cell < length (cells self.old.machine.base.spec) }
+        ensures keeps { Keeps self.old self.new }
+        ensures answer { IfOk result (λ may. (truth : World → Bool) → IsOfCell self.old cell truth r → (may ≡ false)
+            ↔ ((w : World) → IsWorld self.old.machine.base.spec w → (truth w && int_le (slice_index_or w.cells cell (pos 0)) number) ≡ false)) }
+    {
+        keyed_laws();
+        let below = self.below(cell, number)?;
+        let both = self.both(r, below)?;
+        Ok(!self.is_false(both))
+    }
+
+    /// A function that tells of the levels of a cell what `f` does at lawful values.
+    fn projected(&mut self, alloc: Global, f: Ref, cell: u32) -> Result<Ref, NoMemory>
+        requires f_ref { IsRef self.old.diagram f }
+        requires cell { cell < length (cells self.old.machine.base.spec) }
+        ensures keeps { Keeps self.old self.new }
+        ensures answer { IfOk result (IsProjected self.old.diagram self.new.diagram (worlds_of self.old) (cell_levels (worlds_of self.old) cell) f) }
+    {
+        project(
+            alloc,
+            &mut self.arena,
+            &mut self.sums,
+            &self.levels,
+            &mut self.exact,
+            cell,
+            f,
+        )
+    }
+
+    /// Where the values of the levels, lawful or not, give a cell at most this number.
+    fn below(&mut self, cell: u32, number: i64) -> Result<Ref, NoMemory>
+        requires { cell < length (cells self.old.machine.base.spec) }
+        ensures keeps { Keeps self.old self.new }
+        ensures keyed { AreKeyed (worlds_of self.old) }
+        ensures answer { IfOk result (Represents self.new.diagram (is_at_most (worlds_of self.old) cell number)) }
+    {
+        world_sums::at_most(
+            &mut self.arena,
+            &mut self.sums,
+            self.levels.layout(),
+            cell,
+            number,
+        )
+    }
+
+    /// Where two functions are true, at all values of the levels.
+    fn both(&mut self, f: Ref, g: Ref) -> Result<Ref, NoMemory>
+        requires f_ref { IsRef self.old.diagram f }
+        requires g_ref { IsRef self.old.diagram g }
+        ensures keeps { Keeps self.old self.new }
+        ensures answer { IfOk result (Represents self.new.diagram (λ v. meaning self.old.diagram f v && meaning self.old.diagram g v)) }
+    {
+        self.arena.and(f, g)
+    }
+}

@@ -1,0 +1,22 @@
+//! An order for the levels of a machine's diagrams, in which what is read together stands together. Any order is right: which one
+//! is chosen decides how large the diagrams are.
+#![tactic(auto)]
+
+mod clusters;
+mod lines;
+mod lists;
+mod marks;
+mod neighbours;
+mod ordering;
+mod parts;
+mod reading;
+mod reads;
+mod sequences;
+mod sets;
+mod sums;
+mod supports;
+#[cfg(test)]
+mod tests;
+mod union_find;
+
+pub use ordering::order;

@@ -1,0 +1,104 @@
+//! The order of the levels.
+use crate::clusters::clusters;
+use crate::parts::{PartKind, Parts};
+use crate::sequences::Sequences;
+use crate::supports::Supports;
+use crate::union_find::UnionFind;
+use elaborate::Machine;
+use keyed_levels::KeyPlace;
+use rsml_base::{List, NoMemory};
+use std::alloc::Global;
+use std::mem;
+
+/// An order for the levels of a machine, in which what is read together stands together. A comparison that names cells more than once
+/// stands there by itself; cells that meet in sums stand where the first of them does. What no guard reads comes last, and so do
+/// cells that are read in such comparisons alone.
+pub fn order(alloc: Global, machine: &Machine<'_>) -> Result<Vec<KeyPlace>, NoMemory> {
+    let parts = Parts::new(machine)?;
+    let order = parts_in_order(alloc, machine, &parts)?;
+    let mut clusters = clusters(alloc, machine.macros(), parts.cells())?;
+    let cells = gathered(alloc, &parts, &mut clusters, order.as_slice())?;
+    places(alloc, &parts, &mut clusters, cells, order.as_slice())
+}
+
+/// The parts in order: what supports have, sequence by sequence, and then the other components and cells.
+fn parts_in_order(
+    alloc: Global,
+    machine: &Machine<'_>,
+    parts: &Parts,
+) -> Result<Vec<u32>, NoMemory> {
+    let mut sequences = Sequences::new(alloc, parts.count())?;
+    let supports = Supports::new(alloc, machine, parts)?;
+    supports.join(&mut sequences);
+    let mut order = sequences.in_order(alloc)?;
+    for part in 0..parts.first_comparison() {
+        if !sequences.is_read(part) {
+            order.push(part)?;
+        }
+    }
+    Ok(order)
+}
+
+/// For each root of a cluster the cells that hang together, in order.
+fn gathered(
+    alloc: Global,
+    parts: &Parts,
+    clusters: &mut UnionFind,
+    order: &[u32],
+) -> Result<Vec<List<u32>>, NoMemory> {
+    let mut gathered = Vec::new(alloc);
+    for _cell in 0..parts.cells() {
+        gathered.push(List::new(alloc))?;
+    }
+    for part in order {
+        if let PartKind::Cell(cell) = parts.kind(*part) {
+            let root = clusters.root(cell) as usize;
+            if root < gathered.len() {
+                gathered[root].push(*part)?;
+            }
+        }
+    }
+    Ok(gathered)
+}
+
+/// The parts as places. Cells that hang together take one place, that of the first of them.
+fn places(
+    alloc: Global,
+    parts: &Parts,
+    clusters: &mut UnionFind,
+    mut cells: Vec<List<u32>>,
+    order: &[u32],
+) -> Result<Vec<KeyPlace>, NoMemory> {
+    let mut places = Vec::new(alloc);
+    for part in order {
+        match parts.kind(*part) {
+            PartKind::Component => places.push(KeyPlace::Part(*part))?,
+            PartKind::Comparison(phrase) => places.push(KeyPlace::Comparison(phrase))?,
+            PartKind::Cell(cell) => {
+                let cluster = taken(alloc, &mut cells, clusters.root(cell));
+                add_cells(&mut places, cluster)?;
+            }
+        }
+    }
+    Ok(places)
+}
+
+/// Takes a cluster out of where it was gathered.
+fn taken(alloc: Global, cells: &mut Vec<List<u32>>, root: u32) -> List<u32> {
+    let root = root as usize;
+    if root < cells.len() {
+        mem::replace(&mut cells[root], List::new(alloc))
+    } else {
+        List::new(alloc)
+    }
+}
+
+/// Adds cells that hang together: nothing where they have been taken before.
+fn add_cells(places: &mut Vec<KeyPlace>, cluster: List<u32>) -> Result<(), NoMemory> {
+    match cluster.as_slice() {
+        [] => {}
+        [part] => places.push(KeyPlace::Part(*part))?,
+        _ => places.push(KeyPlace::Cluster(cluster))?,
+    }
+    Ok(())
+}

@@ -1,0 +1,5 @@
+pub mod ChainBounds
+pub mod RaisedLemmas
+pub mod SeriesLemmas
+pub mod WrittenLemmas
+pub mod TurnLemmas

@@ -1,0 +1,6 @@
+mod Places
+mod Drafts
+mod Chained
+mod Judged
+mod Written
+mod Whole

@@ -1,0 +1,5 @@
+pub mod EventTexts
+pub mod FieldTexts
+pub mod ItemTexts
+pub mod RoundTexts
+pub mod SendTexts

@@ -1,0 +1,10 @@
+//! The lines of a trace.
+#![tactic(auto)]
+
+mod events;
+mod fields;
+mod sends;
+mod takes;
+mod traces;
+
+pub use traces::Traces;
