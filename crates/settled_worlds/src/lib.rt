@@ -14,3 +14,4 @@ mod sweeping;
 
 pub use exact_keys::ExactKeys;
 pub use settling::{project, settle};
+pub use striking::{is_used, used_levels};
