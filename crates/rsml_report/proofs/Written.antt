@@ -1,18 +1,18 @@
 -- What is found of groups, written one group after another.
-use Rattle.std.proofs.Common.{◌≡◌, ℕ, ◌+◌, ◌<◌, ◌≤◌, Bool, List, [], ◌∷◌, map, flat_map, take, zip, length, Option, Some, slice_get, ap, subst, arith}
+use Rattle.std.proofs.Common.{◌≡◌, ℕ, ◌+◌, ◌<◌, ◌≤◌, List, [], ◌∷◌, map, flat_map, take, zip, length, Option, Some, slice_get, ap, subst, arith}
 use Rattle.std.proofs.lemmas.List.{take_all}
 use Rattle.rsml_syntax.specs.declared.syntax.Spec.{Spec}
 use Rattle.rsml_meaning.specs.Groups.{Group, groups}
 use Rattle.rsml_meaning.specs.Report.{finding}
 use Rattle.state_tree.proofs.Lists.{within_get}
-use Rattle.text_writer.specs.Writes.{Writes}
+use Rattle.text_writer.specs.Writes.{WriterState, Writes}
 use Rattle.finding_texts.specs.declared.verdict.Verdict.{Verdict}
 use Rattle.finding_texts.specs.Verdicts.{verdict_of}
 use Rattle.rsml_report.proofs.Places.{written_there}
 use Rattle.rsml_report.proofs.Judged.{judged_at}
 
 -- one group more, written over a specification that is this one
-pub group_written : {first second third : Bool} {old mid new : Option (List ℕ)} (s n : Spec) (vs : List Verdict) (i : ℕ) (v : Verdict) → n ≡ s → i < length (groups s) → slice_get vs i ≡ Some v
+pub group_written : {first second third : WriterState} {old mid new : Option (List ℕ)} (s n : Spec) (vs : List Verdict) (i : ℕ) (v : Verdict) → n ≡ s → i < length (groups s) → slice_get vs i ≡ Some v
     → Writes first old (flat_map (finding s) (take i (zip (groups s) (map verdict_of vs)))) second mid
     → ((g : Group) → slice_get (groups n) i ≡ Some g → Writes second mid (finding n (g, verdict_of v)) third new)
     → Writes first old (flat_map (finding s) (take (i + 1) (zip (groups s) (map verdict_of vs)))) third new
