@@ -25,6 +25,12 @@ state Plant all {
 /// No time would do to go through its worlds: there are 2000 to the power of 40.
 #[test]
 fn certifies_forty_units(rt: HostRuntime) -> Result<(), Fail> {
-    assert!(rt; reports(rt.alloc(), DEMO, "specification Demo\ngroups 80\nchain Go 1\ncertified\n")?);
+    assert!(rt;
+        reports(
+            rt.alloc(),
+            DEMO,
+            "specification Demo\ngroups 80\nchain Go 1\ncertified\n"
+        )?
+    );
     Ok(())
 }
