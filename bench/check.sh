@@ -1,9 +1,11 @@
 #!/usr/bin/env bash
-# Whole checks, by stages: bench/check.sh [TURNS]
-# A line for each specification: what it has, the milliseconds of each stage (each the least of TURNS (3) runs), and the greatest
-# resident memory. Stages: reading (lexer, parser, rules and limits), machine, event chains, the diagrams of states and phrases, the
-# verdicts of all groups with their counterexamples (which makes the diagrams once more), and the whole analysis after reading.
-# It ends with status 1 where a text is no specification that keeps the rules.
+# Whole checks: bench/check.sh [TURNS]
+# A line for each specification: its bytes, groups and findings, the milliseconds of `format` (reading and writing the layout) and of
+# `check` (each the least of TURNS (3) runs), their ratio, and the greatest resident memory of `check`. Behind it, where `valgrind` is
+# there and the check takes less than two seconds, the share of each stage in the instructions of `check`: reading (lexer and parser),
+# rules and limits, the machine with its event chains, the diagrams of states and phrases, and the groups (their verdicts with
+# counterexamples, and the report).
+# It ends with status 1 where a text is no specification that keeps the rules. PROGRAM=FILE takes a program that is built already.
 set -eu
 cd "$(dirname "$0")/.."
 turns=${1:-3}
@@ -34,9 +36,9 @@ intruders() {
     "event Tick;receive Here(Own)raise Tick;receive Seen[" n "](Other[this],Range[this])raise Tick;" \
     "macro Threat[" n "]{Other[this]-Own<300|T;Own-Other[this]<300|T;Range[this]<25|T;}" \
     "macro Alarm{some k of " n ":macro Threat[k]|T;}" \
-    "macro Calm{every k of " n ":macro Threat[k]|F;}" \
+    "macro Calm{some k of " n ":macro Threat[k]|F;}" \
     "state Own_Ship all{state Alert one{default Off;state Off;state On;" \
-    "move Off->On on Tick when{macro Alarm|T;};stay Off on Tick when{macro Calm|F;};" \
+    "move Off->On on Tick when{macro Alarm|T;};stay Off on Tick when{macro Calm|T;};" \
     "move On->Off on Tick when{macro Alarm|F;};stay On on Tick when{macro Alarm|T;};}" \
     "array Track[" n "] one{default Far;state Far;state Near;" \
     "move Far->Near on Tick when{Range[this]<25|T;};stay Far on Tick when{Range[this]<'"$2"'|F;};" \
@@ -83,28 +85,48 @@ make findings 'put("specification A;event E0;event E1;range R 0..9;input X[64]:R
   for (b = 0; b < 64; b++) { put("state B" b " one{default C0;"); basic("C", 62); for (c = 0; c < 32; c++) for (e = 0; e < 2; e++) {
     put("move C" c "->C" (c * 7 + 1) % 62 " on E" e " when{X[" b + 1 "]<" c % 8 + 1 "|T;};stay C" c " on E" e " when{X[" b + 1 "]<" c % 8 + 1 "|T;};") } put("}") } put("}")'
 
-(cd crates/check_bench && rt run -- "$work/lamp" > "$work/log" 2>&1) || { tail -n 5 "$work/log"; exit 1; }
-program=crates/check_bench/out/check_bench
+[ -n "${PROGRAM:-}" ] || ./rsml format examples/lamp.rsml > /dev/null || exit 1
+program=${PROGRAM:-crates/rsml_main/out/rsml_main}
 
-# measure NAME: writes its figures, a word and a number in each line.
-measure() {
-  {
-    echo "bytes $(stat -c %s "$work/$1")"
-    for _ in $(seq "$turns"); do timeout 120 "$program" times "$work/$1"; done
-    /usr/bin/time -o "$work/memory" -f %M timeout 120 "$program" "$work/$1" > /dev/null && echo "peak $(tail -n 1 "$work/memory")"
-  } > "$work/$1.figures" || true
-  grep -q '^machine ' "$work/$1.figures" || { echo "$1: $(sed -n 2p "$work/$1.figures")"; exit 1; }
+# least WORDS: the least milliseconds of the runs of the program with these words. Its output goes to a file.
+least() {
+  for _ in $(seq "$turns"); do
+    start=$(date +%s%N)
+    timeout 300 "$program" "$@" > "$work/output" || [ $? -eq 1 ] || return 1
+    echo $(($(date +%s%N) - start))
+  done | sort -n | head -n 1 | awk '{ printf "%.2f", $1 / 1e6 }'
 }
 
-format='%-13s %8s %7s %8s %9s %9s %9s %9s %9s %9s %8s\n'
-printf "$format" specification bytes groups unsound reading machine chains diagrams verdicts analysis MB
-while read -r name; do
-  measure "$name"
-  awk -v name="$name" -v format="$format" '
-    function milliseconds(word) { return word in of ? sprintf("%.2f", of[word] / 1e6) : "-" }
-    !($1 in of) || $2 < of[$1] { of[$1] = $2 }
+# shares FILE: the shares of the stages, in percent, by the instructions of functions with all that they call.
+shares() {
+  awk '
+    function count(name) { return name in of ? of[name] : 0 }
+    /PROGRAM TOTALS/ { gsub(",", "", $1); whole = $1; next }
+    whole && match($0, /:[a-z_:A-Z]+ \[/) { name = substr($0, RSTART + 1, RLENGTH - 3); gsub(",", "", $1); if (!(name in of)) of[name] = $1 }
     END {
-      printf format, name, of["bytes"], of["groups"], "unsound" in of ? of["unsound"] : "memory", milliseconds("reading"), milliseconds("machine"),
-        milliseconds("chains"), milliseconds("diagrams"), milliseconds("verdicts"), milliseconds("analysis"), "peak" in of ? sprintf("%.0f", of["peak"] / 1024) : "-"
-    }' "$work/$name.figures"
+      part["reading"] = count("rsml::texts::read_text"); part["rules"] = count("rsml_rules::checking::judge")
+      analysis = count("analysis::analysing::analysis"); rest = count("analysis::analysing::with_chains")
+      part["machine"] = analysis - rest; part["diagrams"] = count("guard_encode::encoder::Encoder::new"); part["groups"] = rest - part["diagrams"]
+      split("reading rules machine diagrams groups", names, " ")
+      for (n = 1; n <= 5; n++) printf " %7.0f%%", 100 * part[names[n]] / whole
+    }' "$1"
+}
+
+format='%-13s %8s %7s %8s %9s %9s %7s %7s%s\n'
+printf "$format" specification bytes groups findings format check ratio MB "  reading    rules  machine diagrams   groups"
+while read -r name; do
+  reading=$(least format "$work/$name")
+  check=$(least check "$work/$name")
+  groups=$(awk '$1 == "groups" { print $2; exit }' "$work/output")
+  [ -n "$groups" ] || { echo "$name: $(head -n 1 "$work/output")"; exit 1; }
+  findings=$(grep -cE '^(none|two) ' "$work/output" || true)
+  /usr/bin/time -o "$work/memory" -f %M "$program" check "$work/$name" > /dev/null || true
+  shares=
+  if command -v valgrind > /dev/null && awk -v t="$check" 'BEGIN { exit !(t < 2000) }'; then
+    valgrind --tool=callgrind --callgrind-out-file="$work/counts" "$program" check "$work/$name" > /dev/null 2>&1 || true
+    callgrind_annotate --inclusive=yes --threshold=100 "$work/counts" > "$work/counted" 2> /dev/null
+    shares=$(shares "$work/counted")
+  fi
+  printf "$format" "$name" "$(stat -c %s "$work/$name")" "$groups" "$findings" "$reading" "$check" \
+    "$(awk -v r="$reading" -v c="$check" 'BEGIN { printf "%.1f", c / r }')" "$(tail -n 1 "$work/memory" | awk '{ printf "%.0f", $1 / 1024 }')" "$shares"
 done < "$work/names"
