@@ -4,7 +4,8 @@ use std::alloc::Global;
 
 /// Whether the report on a text is this one.
 pub fn reports(alloc: Global, text: &str, wanted: &str) -> Result<bool, NoMemory> {
-    Ok(match judge(alloc, text.as_bytes())? {
+    let judgement = judge(alloc, text.as_bytes())?;
+    Ok(match &judgement {
         Judgement::Refused { report } => report.as_slice() == wanted.as_bytes(),
         Judgement::Certified { report, .. } => report.as_slice() == wanted.as_bytes(),
         _ => false,
