@@ -23,7 +23,7 @@ pub fn outcome(
 ) -> Result<(Status, MemorySink), NoMemory> {
     let mut files = MemoryFiles::new(alloc, 4096);
     files.add(SPEC, text)?;
-    let mut sink = MemorySink::new(alloc, 1 << 16)?;
+    let mut sink = MemorySink::new(alloc, 1 << 20)?;
     let words = words_of(alloc, words)?;
     let status = run(alloc, words.as_slice(), &mut files, &mut sink);
     Ok((status, sink))
