@@ -1,0 +1,4 @@
+pub mod Finished
+pub mod Growth
+pub mod Targets
+pub mod Waiting
