@@ -25,14 +25,16 @@ pub none_before : (e : Encoding) (component f : ℕ) → NoneBefore e component 
 none_before e component f = λ truth told w is k. omega arith
 
 -- nor has it this child
-pub none_at : (a b c : Encoding) (component place f : ℕ) → Keeps a b → Keeps b c → NoneBefore a component place f → TellsPassing b c (λ w. place_in component w == place) f None
+pub none_at : (a b c : Encoding) (component place f : ℕ) → Keeps a b → Keeps b c → NoneBefore a component place f
+    → TellsPassing b c (λ w. place_in component w == place) f None
     → NoneBefore a component (place + 1) f
 none_at a b c component place f ab bc before none = λ truth told.
     child_passed a.machine.base.spec (place_in component) place truth (before truth told)
-    (on_old (λ s. IsOfNone s (λ w. truth w && (place_in component w == place))) a c (keeps_on a b c ab bc) (none truth (told_on a b truth f ab told)))
+    (on_old (λ s. IsOfNone (IsWorld s) (λ w. truth w && (place_in component w == place))) a c (keeps_on a b c ab bc) (none truth (told_on a b truth f ab told)))
 
 -- it has this child somewhere
-pub least_at : (a b c : Encoding) (component place f r : ℕ) → Keeps a b → Keeps b c → NoneBefore a component place f → TellsPassing b c (λ w. place_in component w == place) f (Some r)
+pub least_at : (a b c : Encoding) (component place f r : ℕ) → Keeps a b → Keeps b c → NoneBefore a component place f
+    → TellsPassing b c (λ w. place_in component w == place) f (Some r)
     → Narrowed a c nat_cmp (place_in component) place f r
 least_at a b c component place f r ab bc before found = λ truth told some.
     let t = found truth (told_on a b truth f ab told) in
@@ -44,7 +46,8 @@ least_at a b c component place f r ab bc before found = λ truth told some.
     }
 
 -- it has none of its children: then f tells no world
-pub no_child_left : (a b : Encoding) (c : Component) (component many place f r : ℕ) → slice_get (components a.machine.base.spec) component ≡ Some c → many ≡ length c.children
+pub no_child_left : (a b : Encoding) (c : Component) (component many place f r : ℕ)
+    → slice_get (components a.machine.base.spec) component ≡ Some c → many ≡ length c.children
     → NoneBefore a component many f → Narrowed a b nat_cmp (place_in component) place f r
 no_child_left a b c component many place f r at all before = λ truth told some.
     absurd (some (no_child a.machine.base.spec (place_in component) many truth

@@ -23,6 +23,7 @@ pub on_old : (P : Spec → Type 0) (old new : Encoding) → Keeps old new → P 
 on_old P old new keeps h = subst (λ (m : GroundMachine). P m.base.spec) keeps.machine h
 
 -- what is not false everywhere is true of some world
-pub some_decided : (e : Encoding) (truth : World → Bool) (r : ℕ) (b : Bool) → TellsExactly e truth r → (IsTrue b ↔ ((values : ℕ → Bool) → meaning e.diagram r values ≡ false)) → b ≡ false
+pub some_decided : (e : Encoding) (truth : World → Bool) (r : ℕ) (b : Bool) → TellsExactly e truth r
+    → (IsTrue b ↔ ((values : ℕ → Bool) → meaning e.diagram r values ≡ false)) → b ≡ false
     → IsOfSome e truth
 some_decided e truth r b exact decides is_not = λ none. true≢false (sym (decides.1 (exact.none.1 none)) ∙ is_not)

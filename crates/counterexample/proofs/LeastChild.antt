@@ -13,8 +13,10 @@ use Rattle.rsml_meaning.specs.Worlds.{IsWorld}
 use Rattle.counterexample.specs.Narrowing.{IsOfNone, Narrows}
 use Rattle.counterexample.proofs.Narrowed.{is_false}
 
-pub child_found : (s : Spec) (place_in : World → ℕ) (place : ℕ) (truth : World → Bool) → ((w : World) → IsWorld s w → IsTrue (truth w) → place ≤ place_in w)
-    → (IsOfNone s (λ w. truth w && (place_in w == place)) → ⊥) → Narrows s nat_cmp place_in place truth (λ w. truth w && (place_in w == place))
+pub child_found : (s : Spec) (place_in : World → ℕ) (place : ℕ) (truth : World → Bool)
+    → ((w : World) → IsWorld s w → IsTrue (truth w) → place ≤ place_in w)
+    → (IsOfNone (IsWorld s) (λ w. truth w && (place_in w == place)) → ⊥)
+    → Narrows (IsWorld s) nat_cmp place_in place truth (λ w. truth w && (place_in w == place))
 child_found s place_in place truth passed some = record {
   some = some;
   kept = λ w is k. (first_so (truth w) (place_in w == place) k, same w (second_so (truth w) (place_in w == place) k));
@@ -27,20 +29,22 @@ child_found s place_in place truth passed some = record {
     itself : (w : World) → place_in w ≡ place → (place_in w == place) ≡ true
     itself w k = grind (arith, nat_tests)
 
-    by : (w : World) → truth w ≡ true → place ≤ place_in w → (o : Ordering) → MatchOrdering o (place_in w < place) (place_in w ≡ place) (place < place_in w)
+    by : (w : World) → truth w ≡ true → place ≤ place_in w → (o : Ordering)
+        → MatchOrdering o (place_in w < place) (place_in w ≡ place) (place < place_in w)
         → MatchOrdering o ⊥ (IsTrue (truth w && (place_in w == place))) ⊤
     by w k l Less m = omega (arith, l, m)
     by w k l Equal m = λ i. k i && itself w m i
     by w k l Greater m = tt
 
-pub child_passed : (s : Spec) (place_in : World → ℕ) (place : ℕ) (truth : World → Bool) → ((w : World) → IsWorld s w → IsTrue (truth w) → place ≤ place_in w)
-    → IsOfNone s (λ w. truth w && (place_in w == place)) → (w : World) → IsWorld s w → IsTrue (truth w) → place + 1 ≤ place_in w
+pub child_passed : (s : Spec) (place_in : World → ℕ) (place : ℕ) (truth : World → Bool)
+    → ((w : World) → IsWorld s w → IsTrue (truth w) → place ≤ place_in w)
+    → IsOfNone (IsWorld s) (λ w. truth w && (place_in w == place)) → (w : World) → IsWorld s w → IsTrue (truth w) → place + 1 ≤ place_in w
 child_passed s place_in place truth passed none w is k =
     let l = passed w is k in
     let n : (place_in w == place) ≡ false = sym (ap (λ b. b && (place_in w == place)) k) ∙ none w is in
     grind (arith, nat_tests)
 
 pub no_child : (s : Spec) (place_in : World → ℕ) (many : ℕ) (truth : World → Bool) → ((w : World) → IsWorld s w → place_in w < many)
-    → ((w : World) → IsWorld s w → IsTrue (truth w) → many ≤ place_in w) → IsOfNone s truth
+    → ((w : World) → IsWorld s w → IsTrue (truth w) → many ≤ place_in w) → IsOfNone (IsWorld s) truth
 no_child s place_in many truth less passed w is =
     is_false (truth w) (λ k. let l = less w is in let m = passed w is k in omega (arith, l, m))

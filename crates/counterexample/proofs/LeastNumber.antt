@@ -1,5 +1,5 @@
 -- The least number, between bounds that come together.
-use Rattle.std.proofs.Common.{◌≡◌, Bool, true, false, ◌&&◌, refl, sym, ◌∙◌, true≢false, int_le, pos, ◌+ℤ◌, ◌<ℤ◌, ℤ, IsTrue, arith}
+use Rattle.std.proofs.Common.{◌≡◌, Bool, true, false, ◌&&◌, refl, sym, ◌∙◌, true≢false, not, int_le, pos, ◌+ℤ◌, ◌-ℤ◌, ◌<ℤ◌, ℤ, IsTrue, arith}
 use Rattle.std.specs.Bool.{⊤}
 use Rattle.std.specs.Cmp.{first_so, second_so}
 use Rattle.std.specs.Ordering.{MatchOrdering, int_cmp}
@@ -14,8 +14,9 @@ use Rattle.counterexample.specs.Narrowing.{IsOfNone, Narrows, Bounds}
 use Rattle.counterexample.proofs.Narrowed.{is_false}
 
 -- some world has a number up to the greatest
-pub first_bounds : (s : Spec) (number : World → ℤ) (low high : ℤ) (truth : World → Bool) → (IsOfNone s truth → ⊥)
-    → ((w : World) → IsWorld s w → int_le low (number w) ≡ true) → ((w : World) → IsWorld s w → int_le (number w) high ≡ true) → Bounds s number low high truth
+pub first_bounds : (s : Spec) (number : World → ℤ) (low high : ℤ) (truth : World → Bool) → (IsOfNone (IsWorld s) truth → ⊥)
+    → ((w : World) → IsWorld s w → int_le low (number w) ≡ true) → ((w : World) → IsWorld s w → int_le (number w) high ≡ true)
+    → Bounds s number low high truth
 first_bounds s number low high truth some above below = record {
   some = λ none. some (λ w is. is_false (truth w) (λ k. true≢false ((λ i. sym k i && sym (below w is) i) ∙ none w is)));
   above = λ w is k. above w is;
@@ -23,7 +24,7 @@ first_bounds s number low high truth some above below = record {
 
 -- some has one up to the middle
 pub lower_half : (s : Spec) (number : World → ℤ) (low middle high : ℤ) (truth : World → Bool) → Bounds s number low high truth
-    → (IsOfNone s (λ w. truth w && int_le (number w) middle) → ⊥) → Bounds s number low middle truth
+    → (IsOfNone (IsWorld s) (λ w. truth w && int_le (number w) middle) → ⊥) → Bounds s number low middle truth
 lower_half s number low middle high truth h some = record {
   some = some;
   above = h.above;
@@ -31,18 +32,20 @@ lower_half s number low middle high truth h some = record {
 
 -- none has
 pub upper_half : (s : Spec) (number : World → ℤ) (low middle high : ℤ) (truth : World → Bool) → Bounds s number low high truth
-    → IsOfNone s (λ w. truth w && int_le (number w) middle) → Bounds s number (middle +ℤ pos 1) high truth
+    → IsOfNone (IsWorld s) (λ w. truth w && int_le (number w) middle) → Bounds s number (middle +ℤ pos 1) high truth
 upper_half s number low middle high truth h none = record {
   some = h.some;
   above = λ w is k. by w is k (int_le (number w) middle) refl;
 }
   where
-    by : (w : World) → IsWorld s w → IsTrue (truth w) → (b : Bool) → int_le (number w) middle ≡ b → int_le (middle +ℤ pos 1) (number w) ≡ true
+    by : (w : World) → IsWorld s w → IsTrue (truth w) → (b : Bool) → int_le (number w) middle ≡ b
+        → int_le (middle +ℤ pos 1) (number w) ≡ true
     by w is k true e = absurd (true≢false ((λ i. sym k i && sym e i) ∙ none w is))
     by w is k false e = grind (arith, ints)
 
 -- the bounds have met
-pub bounds_met : (s : Spec) (number : World → ℤ) (low high : ℤ) (truth : World → Bool) → int_le high low ≡ true → Bounds s number low high truth → Bounds s number low low truth
+pub bounds_met : (s : Spec) (number : World → ℤ) (low high : ℤ) (truth : World → Bool) → int_le high low ≡ true
+    → Bounds s number low high truth → Bounds s number low low truth
 bounds_met s number low high truth met h = record {
   some = λ none. h.some (λ w is. is_false (truth w && int_le (number w) high) (λ k.
       true≢false ((λ i. sym (first_so (truth w) (int_le (number w) high) k) i && sym (further w (second_so (truth w) (int_le (number w) high) k)) i) ∙ none w is)));
@@ -53,24 +56,47 @@ bounds_met s number low high truth met h = record {
     further w l = grind (arith, ints)
 
 -- the worlds with the least number
-pub least_narrows : (s : Spec) (number : World → ℤ) (least : ℤ) (truth : World → Bool) → Bounds s number least least truth → Narrows s int_cmp number least truth (λ w. truth w && int_le (number w) least)
-least_narrows s number least truth h = record {
-  some = h.some;
-  kept = λ w is k. let a = first_so (truth w) (int_le (number w) least) k in (a, same w (h.above w is a) (second_so (truth w) (int_le (number w) least) k));
-  order = λ w is k. by w is k (h.above w is k) (int_cmp (number w) least) (int_ranked (number w) least (int_cmp (number w) least) refl);
+pub least_narrows : (s : Spec) (number : World → ℤ) (least : ℤ) (truth next : World → Bool) → Bounds s number least least truth
+    → ((w : World) → IsTrue (next w) → IsTrue (truth w && int_le (number w) least))
+    → ((w : World) → IsTrue (truth w) → number w ≡ least → IsTrue (next w))
+    → Narrows (IsWorld s) int_cmp number least truth next
+least_narrows s number least truth next h within all = record {
+  some = λ none. h.some (λ w is. is_false (truth w && int_le (number w) least) (λ k.
+      let a = first_so (truth w) (int_le (number w) least) k in
+      true≢false (sym (all w a (same w (h.above w is a) (second_so (truth w) (int_le (number w) least) k))) ∙ none w is)));
+  kept = λ w is k.
+      let t = within w k in
+      let a = first_so (truth w) (int_le (number w) least) t in
+      (a, same w (h.above w is a) (second_so (truth w) (int_le (number w) least) t));
+  order = λ w is k. by w k (h.above w is k) (int_cmp (number w) least) (int_ranked (number w) least (int_cmp (number w) least) refl);
 }
   where
     same : (w : World) → int_le least (number w) ≡ true → int_le (number w) least ≡ true → number w ≡ least
     same w a b = grind (arith, ints)
 
-    within : (w : World) → number w ≡ least → int_le (number w) least ≡ true
-    within w e = grind (arith, ints)
-
     less : (w : World) → int_le least (number w) ≡ true → number w <ℤ least → ⊥
     less w a b = grind (arith, ints)
 
-    by : (w : World) → IsWorld s w → IsTrue (truth w) → int_le least (number w) ≡ true → (o : Ordering) → MatchOrdering o (number w <ℤ least) (number w ≡ least) (least <ℤ number w)
-        → MatchOrdering o ⊥ (IsTrue (truth w && int_le (number w) least)) ⊤
-    by w is k a Less m = less w a m
-    by w is k a Equal m = λ i. k i && within w m i
-    by w is k a Greater m = tt
+    by : (w : World) → IsTrue (truth w) → int_le least (number w) ≡ true → (o : Ordering)
+        → MatchOrdering o (number w <ℤ least) (number w ≡ least) (least <ℤ number w)
+        → MatchOrdering o ⊥ (IsTrue (next w)) ⊤
+    by w k a Less m = less w a m
+    by w k a Equal m = all w k m
+    by w k a Greater m = tt
+
+-- what has the number is within it
+pub at_number : (truth : World → Bool) (number : World → ℤ) (most : ℤ) (w : World) → IsTrue (truth w) → number w ≡ most
+    → IsTrue (truth w && int_le (number w) most)
+at_number truth number most w k e = λ i. k i && within i
+  where
+    within : int_le (number w) most ≡ true
+    within = grind (arith, ints)
+
+-- and above the one before
+pub past_number : (truth : World → Bool) (number : World → ℤ) (most before : ℤ) → before ≡ most -ℤ pos 1 → (w : World) → IsTrue (truth w)
+    → number w ≡ most
+    → IsTrue ((truth w && int_le (number w) most) && not (int_le (number w) before))
+past_number truth number most before less w k e = λ i. at_number truth number most w k e i && not (above i)
+  where
+    above : int_le (number w) before ≡ false
+    above = grind (arith, ints)

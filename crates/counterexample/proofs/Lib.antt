@@ -1,9 +1,11 @@
 pub mod Parts
+pub mod Low
 pub mod Narrowed
 pub mod LeastChild
 pub mod LeastNumber
 pub mod Kept
 pub mod ListSteps
+pub mod LowSteps
 pub mod ChildSteps
 pub mod BoundSteps
 pub mod WorldStep

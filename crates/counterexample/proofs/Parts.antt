@@ -21,7 +21,8 @@ same_length t (x ∷ xs) [] h = absurd (true≢false (sym h))
 same_length t (x ∷ xs) (y ∷ ys) h = ap suc (same_length t xs ys (second_so (t x y) (pointwise t xs ys) h))
 
 -- what stands beside an item passes with it
-beside : {A B : Type 0} (t : A → B → Bool) (xs : List A) (ys : List B) → pointwise t xs ys ≡ true → (k : ℕ) (x : A) (d : B) → slice_get xs k ≡ Some x → t x (slice_index_or ys k d) ≡ true
+beside : {A B : Type 0} (t : A → B → Bool) (xs : List A) (ys : List B) → pointwise t xs ys ≡ true → (k : ℕ) (x : A) (d : B)
+    → slice_get xs k ≡ Some x → t x (slice_index_or ys k d) ≡ true
 beside t [] ys h k x d at = absurd (let no : ⊥ = cc in no)
 beside t (x ∷ xs) [] h k z d at = absurd (true≢false (sym h))
 beside t (x ∷ xs) (y ∷ ys) h zero z d at = ap (λ a. t a y) (sym (same_Some x z at)) ∙ first_so (t x y) (pointwise t xs ys) h
@@ -30,10 +31,10 @@ beside t (x ∷ xs) (y ∷ ys) h (suc k) z d at = beside t xs ys (second_so (t x
 abbrev fits : InputCell → ℤ → Bool
 fits c n = is_of c.numbers n
 
-choices_are : (s : Spec) (w : World) → IsWorld s w → pointwise is_choice (components s) w.choices ≡ true
+pub choices_are : (s : Spec) (w : World) → IsWorld s w → pointwise is_choice (components s) w.choices ≡ true
 choices_are s w is = first_so (pointwise is_choice (components s) w.choices) (pointwise fits (cells s) w.cells) is
 
-cells_are : (s : Spec) (w : World) → IsWorld s w → pointwise fits (cells s) w.cells ≡ true
+pub cells_are : (s : Spec) (w : World) → IsWorld s w → pointwise fits (cells s) w.cells ≡ true
 cells_are s w is = second_so (pointwise is_choice (components s) w.choices) (pointwise fits (cells s) w.cells) is
 
 -- a choice for each component
@@ -45,24 +46,28 @@ pub many_cells : (s : Spec) (w : World) → IsWorld s w → length w.cells ≡ l
 many_cells s w is = same_length fits (cells s) w.cells (cells_are s w is)
 
 -- a choice is one of the component's children
-pub choice_less : (s : Spec) (w : World) → IsWorld s w → (k : ℕ) (c : Component) → slice_get (components s) k ≡ Some c → slice_index_or w.choices k 0 < length c.children
+pub choice_less : (s : Spec) (w : World) → IsWorld s w → (k : ℕ) (c : Component) → slice_get (components s) k ≡ Some c
+    → slice_index_or w.choices k 0 < length c.children
 choice_less s w is k c at =
     let t : is_choice c (slice_index_or w.choices k 0) ≡ true = beside is_choice (components s) w.choices (choices_are s w is) k c 0 at in
     grind (arith, nat_tests)
 
 -- a number is between the ends of its cell
-pub number_above : (s : Spec) (w : World) → IsWorld s w → (k : ℕ) (c : InputCell) → slice_get (cells s) k ≡ Some c → int_le c.numbers.low (slice_index_or w.cells k (pos 0)) ≡ true
+pub number_above : (s : Spec) (w : World) → IsWorld s w → (k : ℕ) (c : InputCell) → slice_get (cells s) k ≡ Some c
+    → int_le c.numbers.low (slice_index_or w.cells k (pos 0)) ≡ true
 number_above s w is k c at =
     first_so (int_le c.numbers.low (slice_index_or w.cells k (pos 0))) (int_le (slice_index_or w.cells k (pos 0)) c.numbers.high)
     (beside fits (cells s) w.cells (cells_are s w is) k c (pos 0) at)
 
-pub number_below : (s : Spec) (w : World) → IsWorld s w → (k : ℕ) (c : InputCell) → slice_get (cells s) k ≡ Some c → int_le (slice_index_or w.cells k (pos 0)) c.numbers.high ≡ true
+pub number_below : (s : Spec) (w : World) → IsWorld s w → (k : ℕ) (c : InputCell) → slice_get (cells s) k ≡ Some c
+    → int_le (slice_index_or w.cells k (pos 0)) c.numbers.high ≡ true
 number_below s w is k c at =
     second_so (int_le c.numbers.low (slice_index_or w.cells k (pos 0))) (int_le (slice_index_or w.cells k (pos 0)) c.numbers.high)
     (beside fits (cells s) w.cells (cells_are s w is) k c (pos 0) at)
 
 -- lists that are equally long, with one more item each
-pub cmp_more : {A : Type 0} (cmp : A → A → Ordering) (xs ys : List A) (x y : A) → length xs ≡ length ys → slice_cmp cmp (xs ++ x ∷ []) (ys ++ y ∷ []) ≡ ordering_then (slice_cmp cmp xs ys) (cmp x y)
+pub cmp_more : {A : Type 0} (cmp : A → A → Ordering) (xs ys : List A) (x y : A) → length xs ≡ length ys
+    → slice_cmp cmp (xs ++ x ∷ []) (ys ++ y ∷ []) ≡ ordering_then (slice_cmp cmp xs ys) (cmp x y)
 cmp_more cmp [] [] x y l = by (cmp x y)
   where
     by : (o : Ordering) → ordering_then o Equal ≡ o

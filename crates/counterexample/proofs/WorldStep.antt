@@ -1,21 +1,33 @@
 -- The least world: its choices, and then its cells.
-use Rattle.std.proofs.Common.{ℕ, Bool, List, ℤ}
+use Rattle.std.proofs.Common.{◌≡◌, ℕ, Bool, false, List, ℤ, sym, ◌∙◌, slice_get, Some}
 use Rattle.std.specs.Cmp.Lexicographic.{slice_cmp}
 use Rattle.std.specs.Ordering.{nat_cmp, int_cmp}
 use Rattle.rsml_syntax.specs.declared.world.World.{World}
+use Rattle.rsml_meaning.specs.Worlds.{IsWorld}
+use Rattle.guard_encode.specs.declared.reading.ReadParts.{ReadParts}
 use Rattle.guard_encode.specs.Encoding.{Encoding, Keeps, Tells}
+use Rattle.guard_encode.specs.Reading.{IgnoresCell, IgnoresChoice}
 use Rattle.counterexample.specs.Least.{IsLeastWorld}
-use Rattle.counterexample.specs.Telling.{IsOfSome, Narrowed, IsLeastPart}
+use Rattle.counterexample.specs.Narrowing.{IsLow, low_of}
+use Rattle.counterexample.specs.Telling.{IsOfSome, NarrowedLow, IsLeastPart}
 use Rattle.counterexample.proofs.Kept.{on_new}
+use Rattle.counterexample.proofs.Low.{is_low, of_read_parts}
 use Rattle.counterexample.proofs.Narrowed.{world_fixed, least_found}
 
 -- a is the encoder before the choices, b the one after them, and c the one after the cells
-pub world_found : (a b c : Encoding) (choices : List ℕ) (cells : List ℤ) (f rest : ℕ) → Keeps b c → Narrowed a b (slice_cmp nat_cmp) (λ w. w.choices) choices f rest
-    → IsLeastPart b (slice_cmp int_cmp) (λ w. w.cells) cells rest → (truth : World → Bool) → Tells a truth f → IsOfSome a truth
+pub world_found : (a b c : Encoding) (read : ReadParts) (choices : List ℕ) (cells : List ℤ) (f rest : ℕ) → Keeps b c
+    → ((k : ℕ) → slice_get read.choices k ≡ Some false → IgnoresChoice a k f)
+    → ((k : ℕ) → slice_get read.cells k ≡ Some false → IgnoresCell a k f)
+    → NarrowedLow a b read (slice_cmp nat_cmp) (λ w. w.choices) choices f rest
+    → IsLeastPart b read (slice_cmp int_cmp) (λ w. w.cells) cells rest
+    → Keeps a b → (truth : World → Bool) → Tells a truth f → IsOfSome a truth
     → IsLeastWorld c.machine.base.spec truth (record { choices = choices; cells = cells })
-world_found a b c choices cells f rest bc one other truth told some =
-    let t = one truth told some in
-    let u = other t.next t.told t.narrows.some in
+world_found a b c read choices cells f rest bc no_choice no_cell one other ab truth told some =
+    let s = a.machine.base.spec in
+    let of_read = of_read_parts s read truth (λ k not. no_choice k not truth told) (λ k not v w is is2 choices cells. no_cell k not truth told v w is is2 (record { choices = choices; cells = cells })) in
+    let t = one truth told of_read (λ none. some (λ w is. sym (of_read w is) ∙ none (low_of s read w) (is_low s read w is))) in
+    let u = other t.next t.told t.of_read t.narrows.some in
     on_new (λ s. IsLeastWorld s truth (record { choices = choices; cells = cells })) b c bc
-    (least_found b.machine.base.spec (record { choices = choices; cells = cells }) truth u.0
-    (world_fixed b.machine.base.spec choices cells truth t.next u.0 t.narrows u.1))
+    (least_found b.machine.base.spec read (record { choices = choices; cells = cells }) truth u.0
+    (on_new (λ s. (w : World) → IsWorld s w → truth (low_of s read w) ≡ truth w) a b ab of_read)
+    (world_fixed (IsLow b.machine.base.spec read) choices cells truth t.next u.0 t.narrows u.1))

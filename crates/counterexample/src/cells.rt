@@ -5,11 +5,12 @@ ghost use Rattle.std.specs.Cmp.Lexicographic.{slice_cmp};
 ghost use Rattle.rsml_meaning.specs.Cells.{cells as all_cells};
 ghost use Rattle.bdd_core.specs.Diagram.{IsRef};
 ghost use Rattle.guard_encode.specs.Encoding.{Keeps};
-ghost use Rattle.counterexample.specs.Telling.{Bounded, Narrowed, IsLeastPart};
+ghost use Rattle.counterexample.specs.Telling.{Bounded, Narrowed, NarrowedLow, IsLeastPart};
 
-use crate::passing::{up_to, with_at_most};
+use crate::passing::{exactly, with_at_most};
+use crate::reading::is_read;
 use bdd_core::Ref;
-use guard_encode::Encoder;
+use guard_encode::{Encoder, ReadParts};
 use rsml_base::{List, NoMemory};
 use std::alloc::Global;
 
@@ -17,17 +18,18 @@ use std::alloc::Global;
 pub(crate) fn least_cells(
     alloc: Global,
     encoder: &mut Encoder<'_, '_>,
+    read: &ReadParts,
     f: Ref,
 ) -> Result<List<i64>, NoMemory>
     requires { IsRef encoder.old.diagram f }
     ensures keeps { Keeps encoder.old encoder.new }
-    ensures answer { IfOk result (λ numbers. IsLeastPart encoder.old (slice_cmp int_cmp) (λ w. w.cells) numbers f) }
+    ensures answer { IfOk result (λ numbers. IsLeastPart encoder.old read.now (slice_cmp int_cmp) (λ w. w.cells) numbers f) }
 {
     let machine = encoder.machine();
     let mut numbers = List::new(alloc);
     let mut rest = f;
     for place in 0..machine.cells() {
-        let (number, next) = least_number(alloc, encoder, cell_number(place)?, rest)?;
+        let (number, next) = number_of(alloc, encoder, read, cell_number(place)?, rest)?;
         numbers.push(number)?;
         rest = next;
     }
@@ -42,6 +44,26 @@ fn cell_number(place: usize) -> Result<u32, NoMemory>
         Ok(cell) => Ok(cell),
         Err(_) => Err(NoMemory),
     }
+}
+
+/// The least number of a cell: the least of all, where it is not read.
+fn number_of(
+    alloc: Global,
+    encoder: &mut Encoder<'_, '_>,
+    read: &ReadParts,
+    cell: u32,
+    f: Ref,
+) -> Result<(i64, Ref), NoMemory>
+    requires f_ref { IsRef encoder.old.diagram f }
+    requires cell { cell < length (all_cells encoder.old.machine.base.spec) }
+    ensures keeps { Keeps encoder.old encoder.new }
+    ensures is_ref { IfOk result (λ found. IsRef encoder.new.diagram found.1) }
+    ensures answer { IfOk result (λ found. NarrowedLow encoder.old encoder.new read.now int_cmp (λ w. slice_index_or w.cells cell (pos 0)) found.0 f found.1) }
+{
+    if !is_read(&read.cells, cell) {
+        return Ok((encoder.machine().worlds().low(cell), f));
+    }
+    least_number(alloc, encoder, cell, f)
 }
 
 /// The least number of a cell with which `f` is true in some world, and `f` where the cell has it. Where `f` is true in none, any
@@ -64,7 +86,7 @@ fn least_number(
         return Ok((low, rest));
     }
     let number = least_by_halving(alloc, encoder, cell, f)?;
-    let rest = up_to(encoder, f, cell, number)?;
+    let rest = exactly(encoder, f, cell, number)?;
     Ok((number, rest))
 }
 

@@ -29,7 +29,8 @@ pub fn least_world(
     if encoder.is_false(decided) {
         return Ok(None);
     }
-    let (choices, rest) = least_choices(alloc, encoder, f)?;
-    let cells = least_cells(alloc, encoder, rest)?;
+    let read = encoder.parts_read(alloc, f)?;
+    let (choices, rest) = least_choices(alloc, encoder, &read, f)?;
+    let cells = least_cells(alloc, encoder, &read, rest)?;
     Ok(Some(World { choices, cells }))
 }

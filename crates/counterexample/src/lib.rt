@@ -5,5 +5,6 @@ mod cells;
 mod choices;
 mod least;
 mod passing;
+mod reading;
 
 pub use least::least_world;

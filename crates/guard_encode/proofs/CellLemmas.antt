@@ -22,10 +22,10 @@ use Rattle.settled_worlds.specs.Settled.{DependsOn, IsProjected, cell_levels}
 use Rattle.guard_encode.specs.Encoding.{Encoding, IsOfCell, Keeps, Tells, encoding_of, is_at_most, worlds_of}
 use Rattle.guard_encode.proofs.DecidedLemmas.{same_worlds}
 
-abbrev level_list : List Weighted → List ℕ
+abbrev pub level_list : List Weighted → List ℕ
 level_list ts = map (λ t. t.level) ts
 
-abbrev one_bit : Bool → ℕ → ℕ → List Weighted
+abbrev pub one_bit : Bool → ℕ → ℕ → List Weighted
 one_bit b w k = option_to_list (if b then Some (record { minus = false; level = k; weight = w }) else None)
 
 or_right : (a b : Bool) → b ≡ true → (a || b) ≡ true
@@ -36,7 +36,7 @@ zero_if : (b : Bool) → ◌≡◌ {A = ℕ} (if b then 0 else 0) 0
 zero_if true = refl
 zero_if false = refl
 
-later : (b : Bool) (wt p : ℕ) (ss : List Slot) (k level : ℕ) → is_in (level_list (bits_of p false ss (k + 1))) level ≡ true
+pub later : (b : Bool) (wt p : ℕ) (ss : List Slot) (k level : ℕ) → is_in (level_list (bits_of p false ss (k + 1))) level ≡ true
     → is_in (level_list (one_bit b wt k ++ bits_of p false ss (k + 1))) level ≡ true
 later true wt p ss k level e = or_right (level == k) (is_in (level_list (bits_of p false ss (k + 1))) level) e
 later false wt p ss k level e = e

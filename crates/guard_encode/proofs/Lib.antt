@@ -8,3 +8,5 @@ pub mod DecidedLemmas
 pub mod ConditionLemmas
 pub mod MemberLemmas
 pub mod CellLemmas
+pub mod ReadLemmas
+pub mod MarkLemmas

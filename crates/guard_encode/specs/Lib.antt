@@ -1,2 +1,4 @@
 pub mod Phrases
 pub mod Encoding
+pub mod Marking
+pub mod Reading

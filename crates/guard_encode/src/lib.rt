@@ -9,6 +9,8 @@ mod groups;
 mod of_cell;
 mod phrase;
 mod phrases;
+mod reading;
 mod test;
 
 pub use encoder::Encoder;
+pub use reading::ReadParts;

@@ -29,7 +29,7 @@ returns-clause-answer c =
     let b = c.with_at_most.new.encoder in
     let number = to_z w64 (of_z w64 c.in_ok-number.number) in
     let fits : SFits w64 c.in_ok-number.number = search rules in
-    narrowed_last c.args.encoder.now b c.least_by_halving.new.encoder c.up_to.new.encoder (number_in c.args.cell) number c.args.f c.in_ok-rest-2.rest
+    narrowed_last c.args.encoder.now b c.least_by_halving.new.encoder c.exactly.new.encoder (number_in c.args.cell) number c.args.f c.in_ok-rest-2.rest
     c.in_ok-rest.ensures.keeps c.in_ok-number.ensures.keeps c.in_ok-rest-2.ensures.keeps
     (subst (λ (n : ℤ). Bounded b (number_in c.args.cell) n n c.args.f) (sym (to_z-of_z w64 c.in_ok-number.number fits)) c.in_ok-number.ensures.answer)
     c.in_ok-rest-2.ensures.answer

@@ -5,7 +5,7 @@ use Rattle.std.proofs.lemmas.List.{length_push}
 use Rattle.rsml_syntax.specs.declared.syntax.Spec.{Spec}
 use Rattle.rsml_meaning.specs.Instances.{components}
 use Rattle.guard_encode.proofs.StepLemmas.{keeps_on}
-use Rattle.counterexample.specs.Telling.{Narrowed}
+use Rattle.counterexample.specs.Telling.{NarrowedLow}
 use Rattle.counterexample.proofs.Kept.{spec_of}
 use Rattle.counterexample.proofs.ListSteps.{narrowed_more, narrowed_all}
 use Rattle.counterexample.proofs.Parts.{many_choices}
@@ -15,7 +15,7 @@ pub loop-component-preserved : goal.loop-component-preserved
 loop-component-preserved c =
     let a = c.args.encoder.now in
     let b = c.loop-component.encoder in
-    let d = c.least_child.new.encoder in
+    let d = c.child_of.new.encoder in
     let before = c.loop-component.invariant in
     let xs = c.loop-component.choices in
     let n = c.loop-component.component in
@@ -27,8 +27,8 @@ loop-component-preserved c =
       keeps = keeps_on a b d before.keeps c.in_ok-place.ensures.keeps;
       is_ref = c.in_ok-place.ensures.is_ref;
       many = ap length c.in_ok-push.ensures.ok ∙ length_push xs c.in_ok-place.place ∙ ap (λ k. k + 1) before.many;
-      narrowed = subst (λ (ys : List ℕ). Narrowed a d (slice_cmp nat_cmp) (λ w. take (n + 1) w.choices) ys c.args.f c.in_ok-place.next) (sym c.in_ok-push.ensures.ok)
-          (narrowed_more a b d nat_cmp (λ w. w.choices) 0 n (length (components s)) (many_choices s) before.keeps c.in_ok-place.ensures.keeps less xs before.many c.in_ok-place.place c.args.f
+      narrowed = subst (λ (ys : List ℕ). NarrowedLow a d c.args.read.now (slice_cmp nat_cmp) (λ w. take (n + 1) w.choices) ys c.args.f c.in_ok-place.next) (sym c.in_ok-push.ensures.ok)
+          (narrowed_more a b d c.args.read.now nat_cmp (λ w. w.choices) 0 n (length (components s)) (many_choices s) before.keeps c.in_ok-place.ensures.keeps less xs before.many c.in_ok-place.place c.args.f
           c.loop-component.rest c.in_ok-place.next before.narrowed c.in_ok-place.ensures.answer);
     }
 
@@ -39,5 +39,5 @@ returns-clause-answer c =
     let s = a.machine.base.spec in
     let many : c.components-component-end.result ≡ length (components s) =
     c.components-component-end.ensures ∙ ap (λ (t : Spec). length (components t)) (spec_of a c.machine.result.now c.tree-tree.result.now c.tree-tree.ensures c.machine.ensures) in
-    narrowed_all a c.loop-component.encoder nat_cmp (λ w. w.choices) n (length (components s)) (omega (arith, many)) (many_choices s) c.loop-component.invariant.keeps c.loop-component.choices c.args.f
+    narrowed_all a c.loop-component.encoder c.args.read.now nat_cmp (λ w. w.choices) n (length (components s)) (omega (arith, many)) (many_choices s) c.loop-component.invariant.keeps c.loop-component.choices c.args.f
     c.loop-component.rest c.loop-component.invariant.narrowed
