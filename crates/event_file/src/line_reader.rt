@@ -215,6 +215,8 @@ impl LineReader {
         ensures number { result ≡ next.Line → self.new.number ≡ self.old.number + 1 }
         ensures long { result ≡ next.LineTooLong → self.old.settled ≡ None →
             self.new.number ≡ self.old.number + 1 }
+        ensures stays { result ≢ next.Line → self.new.at ≡ self.old.at }
+        ensures unrefused { result ≡ next.Line → self.new.settled ≢ Some next.ReadFault }
         ensures within { self.new.at ≤ self.new.limits.file }
         ensures limits { self.new.limits ≡ self.old.limits }
 

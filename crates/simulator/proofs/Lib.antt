@@ -1,0 +1,9 @@
+pub mod SeriesLemmas
+pub mod RunLemmas
+pub mod LineLemmas
+pub mod StandsLemmas
+pub mod OutputLemmas
+pub mod FollowedLemmas
+pub mod LoopLemmas
+pub mod TurnLemmas
+pub mod EndLemmas

@@ -1,0 +1,4 @@
+pub mod Outputs
+pub mod Simulating
+pub mod Simulation
+pub mod helpers

@@ -1,0 +1,5 @@
+pub mod Series
+pub mod Turns
+pub mod Kept
+pub mod Progress
+pub mod Ready

@@ -1,0 +1,90 @@
+-- How far a simulation has come.
+use Rattle.std.specs.Prelude.{◌≡◌, ℕ, ◌≤◌, true, false, List, [], ◌++◌, length, Option, None, codes, decimal}
+use Rattle.rsml_io.specs.Counts.{Rose}
+use Rattle.rsml_io.specs.Writing.{appended}
+use Rattle.rsml_syntax.specs.declared.syntax.Spec.{Spec}
+use Rattle.rsml_meaning.specs.Words.{Each}
+use Rattle.rsml_meaning.specs.EventLines.{Bytes}
+use Rattle.rsml_meaning.specs.EventFiles.{Limits, Line, long_line, broken_line, long_file, fault_at}
+use Rattle.rsml_meaning.specs.Runs.{Reaction, first_world, IsRun}
+use Rattle.rsml_meaning.specs.Texts.{text_line}
+use Rattle.rsml_meaning.specs.Trace.{trace_text}
+use Rattle.text_writer.specs.Writes.{WriterState}
+use Rattle.buffered_sink.specs.Buffering.{AppendsPrefix}
+use Rattle.event_file.specs.Reading.{Reading, Fits, lines_ahead}
+use Rattle.event_file.specs.declared.next.Next.{Next}
+use Rattle.event_file.specs.declared.next.Next.TheVariants as next
+use Rattle.event_lines.specs.Told.{rule_of}
+use Rattle.simulator.specs.Outputs.{fault_line, read_line, Output, ReadOutput}
+use Rattle.simulator.specs.helpers.Series.{world_after}
+use Rattle.simulator.specs.helpers.Turns.{Turning}
+use Rattle.simulator.specs.declared.sim_end.SimEnd.{SimEnd}
+use Rattle.simulator.specs.declared.sim_end.SimEnd.TheVariants as end
+
+-- Writing.
+
+-- Behind a text stand all of the bytes while nothing is refused, and else some from their front.
+pub record Stands (old : Option (List ℕ)) (bytes : List ℕ) (state : WriterState) (new : Option (List ℕ)) : Type 0 where
+  pub all : state.whole ≡ true → new ≡ appended old bytes
+  pub part : state.whole ≡ false → AppendsPrefix old new bytes
+
+-- A refusal, if there was one, was counted, and all went to one target.
+pub record Counted (state state' : WriterState) : Type 0 where
+  pub count : state.refusals ≤ state'.refusals
+  pub cause : state'.whole ≡ false → Rose state.refusals state'.refusals
+  pub same : state'.target ≡ state.target
+
+-- Lines.
+
+-- no line has a fault
+abbrev pub AreSound : Spec → Limits → Bytes → List Line → Type 0
+AreSound s limits content ls = Each (λ l. fault_at s limits (length content) l ≡ None) ls
+
+-- Between two lines: the reader fits what the file holds, no line before its offset has a fault, and the events of these lines were
+-- followed, and their reactions written.
+pub record Followed (s : Spec) (limits : Limits) (content : Bytes) (r : Reading) (t : Turning) (old : Option (List ℕ)) (state : WriterState) (new : Option (List ℕ)) : Type 0 where
+  pub spec : t.spec ≡ s
+  pub limited : r.limits ≡ limits
+  pub fits : Fits content r
+  pub sound : AreSound s limits content (lines_ahead r.at content)
+  pub run : List Reaction
+  pub is_run : IsRun s (lines_ahead r.at content) run
+  pub after : world_after (first_world s) run ≡ t.world
+  pub count : length run ≡ t.events
+  pub stands : Stands old (trace_text s run) state new
+
+-- Ends.
+
+-- how it ends where the reader has no line
+abbrev pub end_at : Next → ℕ → ℕ → SimEnd
+end_at next.ReadFault events number = end.ReadFault
+end_at next.LineTooLong events number = end.LineTooLong number
+end_at next.TooLong events number = end.TooLong
+end_at _ events number = end.Ended events
+
+-- the last line, by how it ends; none where a write was refused
+abbrev pub last_line : SimEnd → Bytes
+last_line (end.Ended n) = text_line (codes "end " ++ decimal n)
+last_line (end.LineFault n fault) = fault_line (broken_line n (rule_of fault))
+last_line (end.LineTooLong n) = fault_line (long_line n)
+last_line end.TooLong = fault_line long_file
+last_line end.ReadFault = read_line
+last_line end.WriteFault = []
+
+-- how it ends when so many bytes of the file were read, and what stands before the last line:
+abbrev pub EndsSo : Spec → Limits → Bytes → ℕ → SimEnd → Bytes → Type 0
+-- some output begins so
+EndsSo s limits content k end.WriteFault trace = (wanted : SimEnd) × (more : Bytes) × Output s limits content wanted (trace ++ more)
+-- with the line of the read this is what is written there
+EndsSo s limits content k end.ReadFault trace = ReadOutput s limits content k (trace ++ last_line end.ReadFault)
+-- with its last line it is the output
+EndsSo s limits content k (end.Ended n) trace = Output s limits content (end.Ended n) (trace ++ last_line (end.Ended n))
+EndsSo s limits content k (end.LineFault n fault) trace = Output s limits content (end.LineFault n fault) (trace ++ last_line (end.LineFault n fault))
+EndsSo s limits content k (end.LineTooLong n) trace = Output s limits content (end.LineTooLong n) (trace ++ last_line (end.LineTooLong n))
+EndsSo s limits content k end.TooLong trace = Output s limits content end.TooLong (trace ++ last_line end.TooLong)
+
+-- A simulation has come to its last line.
+pub record Stops (s : Spec) (limits : Limits) (content : Bytes) (k : ℕ) (ended : SimEnd) (old : Option (List ℕ)) (state : WriterState) (new : Option (List ℕ)) : Type 0 where
+  pub trace : Bytes
+  pub stands : Stands old trace state new
+  pub ends : EndsSo s limits content k ended trace
