@@ -1,0 +1,5 @@
+pub mod Writing
+pub mod Plant
+pub mod Text
+pub mod Events
+pub mod Laws
