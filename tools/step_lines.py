@@ -22,22 +22,32 @@ STEP_TESTS = FOLDER.parent.parent / "step_tests/src"
 ROUND = re.compile(r"\d+:")
 
 
+def latched(it, world, receive, values):
+    """The world after a message: its cells have the values, and their previous cells what they had."""
+    choices, cells = world
+    after = [*cells]
+    for reference, value in zip(it.content[receive[0]][0], values, strict=True):
+        cell = it.instance(reference, receive[1])
+        if (cell, True) in it.cells:
+            after[it.cells.index((cell, True))] = cells[it.cells.index((cell, False))]
+        after[it.cells.index((cell, False))] = value
+    return choices, after
+
+
+def raised_by(it, receive):
+    """The event that a receive instance raises."""
+    return it.instance(it.content[receive[0]][1], receive[1])
+
+
 def received(it, world, line):
     """The world after an event line, and the events that are present then."""
     word, *fields = line.split(" ")
     name, _, index = word.partition("[")
-    this = int(index.rstrip("]") or 0)
-    inputs, raised = it.content[name]
-    choices, cells = world
-    after = [*cells]
-    for reference, field in zip(inputs, fields, strict=True):
-        shown, _, value = field.partition("=")
-        cell = it.instance(reference, this)
-        assert shown == cell[0]
-        if (cell, True) in it.cells:
-            after[it.cells.index((cell, True))] = cells[it.cells.index((cell, False))]
-        after[it.cells.index((cell, False))] = it.constants[value] if value in it.constants else int(value)
-    return (choices, after), {it.instance(raised, this)}
+    receive = name, int(index.rstrip("]") or 0)
+    shown, values = zip(*[field.split("=") for field in fields]) if fields else ((), ())
+    assert [*shown] == [reference[0] for reference in it.content[name][0]]
+    numbers = [it.constants[value] if value in it.constants else int(value) for value in values]
+    return latched(it, world, receive, numbers), {raised_by(it, receive)}
 
 
 def moved(it, choices, number):
@@ -71,12 +81,12 @@ def sent_text(it, world, case):
 
 
 def micro_steps(it, world, present):
-    """The numbers of the transitions, the texts of the cases that are sent, the worlds that are allowed, and what is raised."""
+    """The numbers of the transitions and of the cases that are sent, the worlds that are allowed, and what is raised."""
     taken = [at for at, x in enumerate(it.transitions) if x[4] in present and it.is_taken(world, at)]
     sent = [at for at, x in enumerate(it.cases) if x[2] in present and it.is_enabled(world, ("c", at))]
     raised = {event for at in taken for event in it.transitions[at][6]}
     worlds = [(choices, world[1]) for choices in outcomes(it, world[0], taken)]
-    return taken, [sent_text(it, world, at) for at in sent], worlds, raised
+    return taken, sent, worlds, raised
 
 
 def round_text(it, number, taken, sent, world, raised):
@@ -89,7 +99,8 @@ def rounds(it, world, present, wanted):
     rows = []
     while present:
         taken, sent, worlds, raised = micro_steps(it, world, present)
-        texts = [round_text(it, len(rows) + 1, taken, sent, w, raised) for w in worlds]
+        sent_texts = [sent_text(it, world, at) for at in sent]
+        texts = [round_text(it, len(rows) + 1, taken, sent_texts, w, raised) for w in worlds]
         chosen = next((at for at, text in enumerate(texts) if text in wanted), 0)
         rows.append(texts[chosen])
         world, present = worlds[chosen], raised

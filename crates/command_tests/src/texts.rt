@@ -86,12 +86,15 @@ fn finds_the_fault_in_a_long_text(rt: HostRuntime) -> Result<(), Fail> {
 
 #[test]
 fn takes_commands_alone(rt: HostRuntime) -> Result<(), Fail> {
-    let wrong: [&[&str]; 5] = [
+    let wrong: [&[&str]; 8] = [
         &[],
         &["check"],
         &["--help"],
         &["chec", "spec"],
         &["format", "spec", "more"],
+        &["simulate", "spec"],
+        &["simulat", "spec", "events"],
+        &["simulate", "spec", "events", "more"],
     ];
     for words in wrong {
         let (status, sink) = outcome(rt.alloc(), words, b"specification A; state A;")?;

@@ -1,5 +1,5 @@
 -- What a specification is judged to be, by what the analysis and the rules answered.
-use Rattle.std.proofs.Common.{◌≡◌, ◌≢◌, ℕ, ◌<◌, true, false, List, Some, None, Result, Ok, Err, Vec, ◌++◌, sym, ◌∙◌, subst, refl, arith}
+use Rattle.std.proofs.Common.{◌≡◌, ◌≢◌, ℕ, true, false, List, Some, None, Result, Ok, Err, Vec, ◌++◌, sym, subst, refl, arith}
 use Rattle.std.specs.Prelude.{IfOk, IsTrue, ◌↔◌, Bool, codes, decimal}
 use Rattle.std.specs.declared.alloc.Global.{Global}
 use Rattle.one_run.specs.Laws.{CertifiedIsDeterministic, LastLineIsVerdict}

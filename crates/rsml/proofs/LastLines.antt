@@ -1,5 +1,5 @@
 -- The report is lines, and its last line tells how many loops, clashes and findings stand before it.
-use Rattle.std.proofs.Common.{◌≡◌, ◌≢◌, ℕ, ◌<◌, Bool, true, false, List, [], ◌∷◌, ◌++◌, Option, Some, None, refl, sym, ap, ◌∙◌, append_assoc, append-nil, ne_eqb, length}
+use Rattle.std.proofs.Common.{◌≡◌, ◌≢◌, ℕ, Bool, true, false, List, [], ◌∷◌, ◌++◌, Option, Some, None, refl, sym, ap, ◌∙◌, append_assoc, append-nil, ne_eqb, length}
 use Rattle.std.specs.Prelude.{codes, decimal, flat_map, zip, filter, if◌then◌else◌, ◌==◌, ℤ}
 use Rattle.std.specs.Ordering.{int_eq}
 use Rattle.rsml_syntax.specs.declared.syntax.Spec.{Spec}

@@ -4,4 +4,6 @@ pub mod JudgementLemmas
 pub mod LastLines
 pub mod OneOutput
 pub mod OutcomeLemmas
+pub mod SimulationLemmas
+pub mod StartLemmas
 pub mod TextLemmas

@@ -1,10 +1,17 @@
 -- What a command answers and writes is one thing.
-use Rattle.std.proofs.Common.{◌≡◌, ℕ, ◌<◌, ◌≤◌, List, Some, None, Result, Ok, Err, length, map, refl, sym, ap, ◌∙◌, subst, arith}
+use Rattle.std.proofs.Common.{◌≡◌, ◌≤◌, List, Some, None, Result, Ok, Err, length, map, refl, sym, ap, ◌∙◌, subst, arith}
+use Rattle.std.specs.Prelude.{◌++◌}
+use Rattle.one_run.specs.Laws.{LinesHaveOneRun}
 use Rattle.rsml_lexer.specs.Laws.{AtMostOneTokenList, AtMostOneFirstFault, NeverBoth}
-use Rattle.rsml_meaning.specs.Laws.{ReportIsOne}
+use Rattle.rsml_meaning.specs.Certified.{Certified}
+use Rattle.rsml_meaning.specs.EventFiles.{Line, program_limits, FileFault, IsWellFormed, IsFirstFault, lines_of, sound_lines}
+use Rattle.rsml_meaning.specs.Laws.{ReportIsOne, WellFormedHasNoFault, FirstFaultIsOfLine}
+use Rattle.rsml_meaning.specs.Runs.{Reaction, IsRun}
+use Rattle.rsml_meaning.specs.Trace.{trace_text, whole_trace}
 use Rattle.rsml_parser.specs.Laws.{IsTrueAnswer, HasOneAnswer}
 use Rattle.rsml_parser.specs.declared.error.ParseError.{ParseError}
 use Rattle.rsml_parser.specs.declared.error.ParseError.TheVariants as errors
+use Rattle.rsml_scopes.specs.Laws.{RulesGiveScopes}
 use Rattle.rsml_syntax.specs.declared.edition.Edition.{Edition}
 use Rattle.rsml_syntax.specs.declared.edition.Edition.TheVariants as edition
 use Rattle.rsml_syntax.specs.declared.syntax.Spec.{Spec}
@@ -18,22 +25,32 @@ use Rattle.rsml_syntax.specs.text.Renaming.{IsRenamed, unchanged, changed, renam
 use Rattle.rsml_syntax.specs.text.Tokens.{AreTokens}
 use Rattle.rsml_syntax.proofs.RenamingLemmas.{renamed_tokens}
 use Rattle.rsml_syntax.proofs.ScanLemmas.{lexes_tokens}
-use Rattle.rsml.specs.Commands.{Bytes, Command, with_file}
+use Rattle.simulator.specs.Outputs.{end_of, fault_line, done, faulty}
+use Rattle.simulator.specs.Outputs as simulation
+use Rattle.simulator.specs.declared.sim_end.SimEnd.{SimEnd}
+use Rattle.simulator.specs.declared.sim_end.SimEnd.TheVariants as end
+use Rattle.rsml.specs.Commands.{Bytes, Command, act, simulate}
 use Rattle.rsml.specs.FaultLines as lines
 use Rattle.rsml.specs.Headline.{IsRightReport}
 use Rattle.rsml.specs.Judgements.{IsBroken}
 use Rattle.rsml.specs.Judgements as judged
 use Rattle.rsml.specs.Laws.{OutputIsOne}
-use Rattle.rsml.specs.Output.{SpecificationOutput, CheckOutput, FormatOutput, MigrateOutput, ActionOutput, no_command, acted}
+use Rattle.rsml.specs.Output.{SpecificationOutput, CheckOutput, FormatOutput, MigrateOutput, ActionOutput, SimulateOutput, IsCertifiedText, status_of, no_command, acted}
 use Rattle.rsml.specs.Output as output
 use Rattle.rsml.specs.Texts.{greatest_text, HasFault, AreThemselves, IsTextOf, IsUnread, IsTextByFirst, IsUnreadByFirst, no_tokens, no_syntax, too_deep}
 use Rattle.rsml.specs.declared.command.Action.{Action}
 use Rattle.rsml.specs.declared.command.Action.TheVariants as action
 use Rattle.rsml.specs.declared.status.Status.{Status}
+use Rattle.rsml.specs.declared.status.Status.TheVariants as status
 
 -- one status and one text
 abbrev AreOne : Status → Bytes → Status → Bytes → Type 0
 AreOne a xs b ys = (a ≡ b) × (xs ≡ ys)
+
+-- what a command comes to
+abbrev OfCommand : (Bytes → Bytes) → Command → Status → Bytes → Type 0
+OfCommand contents (act does file) = ActionOutput does (contents file)
+OfCommand contents (simulate file events) = SimulateOutput (contents file) (contents events)
 
 same_some : {A : Type 0} (x y : A) → Some x ≡ Some y → x ≡ y
 same_some x y e = ap (λ o. elim o [ Some z ↦ z | None ↦ x ]) e
@@ -63,6 +80,45 @@ one_of_specification one s a b xs ys (output.refused h r e) (output.certified k 
 one_of_specification one s a b xs ys (output.certified h _ e) (output.broken k f) = absurd (keeps_none s ys h k)
 one_of_specification one s a b xs ys (output.certified h r e) (output.refused k q f) = absurd (q.not_certified r.certified)
 one_of_specification one s a b xs ys (output.certified h r e) (output.certified k q f) = (e ∙ sym f, one_report one s xs ys r.report q.report)
+
+-- a specification that is certified, if it is not broken, ends with Done
+certified_done : (s : Spec) (a : Status) (xs : Bytes) → Keeps s → Certified s → SpecificationOutput s a xs → a ≡ status.Done
+certified_done s a xs keeps certified (output.broken h e) = absurd (keeps_none s xs keeps h)
+certified_done s a xs keeps certified (output.refused _ r e) = absurd (r.not_certified certified)
+certified_done s a xs keeps certified (output.certified _ r e) = e
+
+-- Simulations.
+
+module _ (no_fault : WellFormedHasNoFault) (of_line : FirstFaultIsOfLine) (scopes : RulesGiveScopes) (runs : LinesHaveOneRun)
+    (s : Spec) (keeps : Keeps s) (certified : Certified s) where
+  one_run : (ls : List Line) (rs qs : List Reaction) → IsRun s ls rs → IsRun s ls qs → rs ≡ qs
+  one_run ls rs qs h k = let one = runs s ls (scopes s keeps.rules) certified in one.only rs h ∙ sym (one.only qs k)
+
+  sound_not_faulty : (content : Bytes) (f : FileFault) → IsWellFormed s program_limits content → IsFirstFault s program_limits content f → ⊥
+  sound_not_faulty content f h k =
+      let none = (no_fault s program_limits content).1 h in
+      let some = (of_line s program_limits content f).1 k in
+      cc (none, some)
+
+  one_file_fault : (content : Bytes) (f g : FileFault) → IsFirstFault s program_limits content f → IsFirstFault s program_limits content g
+      → f ≡ g
+  one_file_fault content f g h k =
+      same_some f g (sym ((of_line s program_limits content f).1 h) ∙ (of_line s program_limits content g).1 k)
+
+  one_simulation : (content : Bytes) (a b : SimEnd) (xs ys : Bytes) → simulation.Output s program_limits content a xs
+      → simulation.Output s program_limits content b ys → (a ≡ b) × (xs ≡ ys)
+  one_simulation content a b xs ys (done rs w r e h) (done qs v q f k) =
+      let same = one_run (lines_of content) rs qs r q in
+      (e ∙ ap (λ (x : List Reaction). end.Ended (length x)) same ∙ sym f, h ∙ ap (whole_trace s) same ∙ sym k)
+  one_simulation content a b xs ys (done rs w r e h) (faulty g qs i q f k) = absurd (sound_not_faulty content g w i)
+  one_simulation content a b xs ys (faulty g rs i r e h) (done qs w q f k) = absurd (sound_not_faulty content g w i)
+  one_simulation content a b xs ys (faulty g rs i r e h) (faulty d qs j q f k) =
+      let same = one_run (sound_lines s program_limits content) rs qs r q in
+      let fault = one_file_fault content g d i j in (
+        e ∙ ap end_of fault ∙ sym f,
+        h ∙ ap (λ (x : List Reaction). trace_text s x ++ fault_line g) same
+            ∙ ap (λ (x : FileFault). trace_text s qs ++ fault_line x) fault ∙ sym k,
+      )
 
 -- Renaming.
 
@@ -190,18 +246,45 @@ module _ (faults : AtMostOneFirstFault) (lists : AtMostOneTokenList) (never : Ne
   one_migrate text a b xs ys (output.migrated s t e h) (output.MigrateOutput.unread u f) = absurd (first_not text ys s t u)
   one_migrate text a b xs ys (output.migrated s t e h) (output.migrated r u f k) = (e ∙ sym f, h ∙ ap (λ x. layout (tokens_of x)) (one_text_by_first text s r t u) ∙ sym k)
 
-  one_action : ReportIsOne → (act : Action) (text : Bytes) (a b : Status) (xs ys : Bytes) → ActionOutput act text a xs → ActionOutput act text b ys → AreOne a xs b ys
+  one_action : ReportIsOne → (does : Action) (text : Bytes) (a b : Status) (xs ys : Bytes) → ActionOutput does text a xs → ActionOutput does text b ys → AreOne a xs b ys
   one_action one action.Check text a b xs ys o p = one_check one text a b xs ys o p
   one_action one action.Format text a b xs ys o p = one_format text a b xs ys o p
   one_action one action.Migrate text a b xs ys o p = one_migrate text a b xs ys o p
 
+  -- `check` of a certified text ends with Done
+  check_is_done : (text : Bytes) (s : Spec) (a : Status) (xs : Bytes) → IsCertifiedText text s → CheckOutput text a xs → a ≡ status.Done
+  check_is_done text s a xs c (output.CheckOutput.too_long l e h) = absurd (omega (arith, l, c.reads.short))
+  check_is_done text s a xs c (output.CheckOutput.unread u e) = absurd (text_not text xs s c.reads u)
+  check_is_done text s a xs c (output.judged r u o) =
+      certified_done s a xs c.keeps c.certified (subst (λ (x : Spec). SpecificationOutput x a xs) (one_text text r s u c.reads) o)
+
   -- Commands.
 
-  pub one_output : ReportIsOne → OutputIsOne
-  one_output one words contents a b xs ys (no_command none e h) (no_command _ f k) = (e ∙ sym f, h ∙ sym k)
-  one_output one words contents a b xs ys (no_command none e h) (acted act file is o) = absurd (cc (none, is))
-  one_output one words contents a b xs ys (acted act file is o) (no_command none e h) = absurd (cc (none, is))
-  one_output one words contents a b xs ys (acted act file is o) (acted other file' at p) =
-      let same = same_some (with_file file' other) (with_file file act) (sym at ∙ is) in
-      let p' = subst (λ (c : Command). ActionOutput c.action (contents c.file) b ys) same p in
-      one_action one act (contents file) a b xs ys o p'
+  module _ (one : ReportIsOne) (no_fault : WellFormedHasNoFault) (of_line : FirstFaultIsOfLine) (scopes : RulesGiveScopes)
+      (runs : LinesHaveOneRun) where
+    one_simulate : (text content : Bytes) (a b : Status) (xs ys : Bytes) → SimulateOutput text content a xs
+        → SimulateOutput text content b ys → AreOne a xs b ys
+    one_simulate text content a b xs ys (output.checked n o) (output.checked m p) = one_check one text a b xs ys o p
+    one_simulate text content a b xs ys (output.checked n o) (output.SimulateOutput.simulated s ended c p f) =
+        absurd (n (check_is_done text s a xs c o))
+    one_simulate text content a b xs ys (output.SimulateOutput.simulated s ended c o e) (output.checked m p) =
+        absurd (m (check_is_done text s b ys c p))
+    one_simulate text content a b xs ys (output.SimulateOutput.simulated s x c o e) (output.SimulateOutput.simulated r y d p f) =
+        let q = subst (λ (z : Spec). simulation.Output z program_limits content y ys) (one_text text r s d.reads c.reads) p in
+        let same = one_simulation no_fault of_line scopes runs s c.keeps c.certified content x y xs ys o q in
+        (e ∙ ap status_of same.0 ∙ sym f, same.1)
+
+    pub one_output : OutputIsOne
+    one_output words contents a b xs ys (no_command none e h) (no_command _ f k) = (e ∙ sym f, h ∙ sym k)
+    one_output words contents a b xs ys (no_command none e h) (acted does file is o) = absurd (cc (none, is))
+    one_output words contents a b xs ys (no_command none e h) (output.Output.simulated file events is o) = absurd (cc (none, is))
+    one_output words contents a b xs ys (acted does file is o) (no_command none e h) = absurd (cc (none, is))
+    one_output words contents a b xs ys (acted does file is o) (acted other file' at p) =
+        let same = same_some (act other file') (act does file) (sym at ∙ is) in
+        one_action one does (contents file) a b xs ys o (subst (λ (c : Command). OfCommand contents c b ys) same p)
+    one_output words contents a b xs ys (acted does file is o) (output.Output.simulated file' events at p) = absurd (cc (is, at))
+    one_output words contents a b xs ys (output.Output.simulated file events is o) (no_command none e h) = absurd (cc (none, is))
+    one_output words contents a b xs ys (output.Output.simulated file events is o) (acted does file' at p) = absurd (cc (is, at))
+    one_output words contents a b xs ys (output.Output.simulated file events is o) (output.Output.simulated file' events' at p) =
+        let same = same_some (simulate file' events') (simulate file events) (sym at ∙ is) in
+        one_simulate (contents file) (contents events) a b xs ys o (subst (λ (c : Command). OfCommand contents c b ys) same p)

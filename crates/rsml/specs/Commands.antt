@@ -1,5 +1,5 @@
 -- The commands: what the words after the program's name ask for.
-use Rattle.std.specs.Prelude.{ℕ, true, false, List, [], ◌∷◌, Option, Some, None, codes, option_map}
+use Rattle.std.specs.Prelude.{ℕ, true, false, List, [], ◌∷◌, Option, Some, None, codes, option_map, if◌then◌else◌}
 use Rattle.rsml_syntax.specs.text.Names.{same}
 use Rattle.rsml.specs.declared.command.Action.{Action}
 use Rattle.rsml.specs.declared.command.Action.TheVariants as action
@@ -18,16 +18,29 @@ action_of word = elim (same word (codes "check")) [
   ]
 ]
 
--- An action, and the name of the specification's file.
-pub record Command : Type 0 where
-  pub action : Action
-  pub file : Bytes
+-- What is asked for, by the names of files:
+pub data Command : Type 0 where
+  -- an action on a specification
+  act : Action → Bytes → Command
+  -- the simulation of a specification over an event file
+  simulate : Bytes → Bytes → Command
 
--- the command of this action on this file
+-- this action on this file
 abbrev pub with_file : Bytes → Action → Command
-with_file file action = record { action = action; file = file }
+with_file file action = act action file
 
 -- the command that the words are, if they are one
 abbrev pub command_of : List Bytes → Option Command
 command_of (word ∷ file ∷ []) = option_map (with_file file) (action_of word)
+command_of (word ∷ file ∷ events ∷ []) = if same word (codes "simulate") then Some (simulate file events) else None
 command_of _ = None
+
+-- the file of the command's specification
+abbrev pub specification_file : Command → Bytes
+specification_file (act action file) = file
+specification_file (simulate file events) = file
+
+-- the command names this file
+pub data Names : Command → Bytes → Type 0 where
+  specification : (c : Command) → Names c (specification_file c)
+  events : (file events : Bytes) → Names (simulate file events) events

@@ -1,9 +1,15 @@
--- What a command answers and writes, by what the specification's file holds.
-use Rattle.std.specs.Prelude.{◌≡◌, ◌<◌, List, length, Some, None}
+-- What a command answers and writes, by what its files hold.
+use Rattle.std.specs.Prelude.{◌≡◌, ◌≢◌, ℕ, ◌<◌, List, length, Some, None}
 use Rattle.rsml_syntax.specs.declared.syntax.Spec.{Spec}
 use Rattle.rsml_syntax.specs.grammar.Grammar.{tokens_of}
 use Rattle.rsml_syntax.specs.grammar.Layout.{layout}
-use Rattle.rsml.specs.Commands.{Bytes, with_file, command_of}
+use Rattle.rsml_meaning.specs.Certified.{Certified}
+use Rattle.rsml_meaning.specs.EventFiles.{program_limits}
+use Rattle.one_run.specs.Deterministic.{IsDeterministic}
+use Rattle.simulator.specs.Outputs as simulation
+use Rattle.simulator.specs.declared.sim_end.SimEnd.{SimEnd}
+use Rattle.simulator.specs.declared.sim_end.SimEnd.TheVariants as end
+use Rattle.rsml.specs.Commands.{Bytes, act, simulate, command_of}
 use Rattle.rsml.specs.FaultLines as lines
 use Rattle.rsml.specs.Headline.{IsCertificate, IsRefusal}
 use Rattle.rsml_syntax.specs.limits.Limits.{Keeps}
@@ -45,8 +51,41 @@ ActionOutput action.Check = CheckOutput
 ActionOutput action.Format = FormatOutput
 ActionOutput action.Migrate = MigrateOutput
 
+-- the status of a simulation, by how it ended
+abbrev pub status_of : SimEnd → Status
+status_of (end.Ended events) = status.Done
+status_of (end.LineFault line fault) = status.EventFault
+status_of (end.LineTooLong line) = status.EventFault
+status_of end.ReadFault = status.ReadFault
+status_of end.TooLong = status.TooLong
+status_of end.WriteFault = status.WriteFault
+
+-- A text reads as a specification that keeps the rules and the limits and is certified.
+pub record IsCertifiedText (text : Bytes) (s : Spec) : Type 0 where
+  pub reads : IsTextOf text s
+  pub keeps : Keeps s
+  pub certified : Certified s
+  pub deterministic : IsDeterministic s
+
+-- What `simulate` answers and writes, by the text of the specification and what the event file holds: what `check` does of a
+-- specification that is not certified, and else what the simulation does.
+pub data SimulateOutput (text content : Bytes) (answer : Status) (bytes : Bytes) : Type 0 where
+  checked : answer ≢ status.Done → CheckOutput text answer bytes → SimulateOutput text content answer bytes
+  simulated : (s : Spec) (ended : SimEnd) → IsCertifiedText text s → simulation.Output s program_limits content ended bytes
+      → answer ≡ status_of ended → SimulateOutput text content answer bytes
+
 -- What the words come to, where the files hold these contents.
 pub data Output (words : List Bytes) (contents : Bytes → Bytes) (answer : Status) (bytes : Bytes) : Type 0 where
   no_command : command_of words ≡ None → answer ≡ status.Usage → bytes ≡ lines.usage → Output words contents answer bytes
-  acted : (action : Action) (file : Bytes) → command_of words ≡ Some (with_file file action)
+  acted : (action : Action) (file : Bytes) → command_of words ≡ Some (act action file)
       → ActionOutput action (contents file) answer bytes → Output words contents answer bytes
+  simulated : (file events : Bytes) → command_of words ≡ Some (simulate file events)
+      → SimulateOutput (contents file) (contents events) answer bytes → Output words contents answer bytes
+
+-- What is written where a read of the event file is refused when so many of its bytes have been read.
+pub record ReadOutput (words : List Bytes) (contents : Bytes → Bytes) (events : Bytes) (k : ℕ) (bytes : Bytes) : Type 0 where
+  pub file : Bytes
+  pub command : command_of words ≡ Some (simulate file events)
+  pub spec : Spec
+  pub certified : IsCertifiedText (contents file) spec
+  pub output : simulation.ReadOutput spec program_limits (contents events) k bytes

@@ -1,10 +1,13 @@
 -- What `run` promises, whatever the files and the sink do.
 use Rattle.std.specs.Prelude.{◌≡◌, ◌≢◌, ℕ, ◌⊎◌, List, Some, None}
 use Rattle.rsml_syntax.specs.declared.syntax.Spec.{Spec}
-use Rattle.rsml.specs.Commands.{Bytes, Command, with_file, command_of}
+use Rattle.rsml_meaning.specs.EventFiles.{program_limits, lines_of, IsWellFormed}
+use Rattle.rsml_meaning.specs.Runs.{Reaction, IsRun}
+use Rattle.rsml_meaning.specs.Trace.{whole_trace}
+use Rattle.rsml.specs.Commands.{Bytes, Command, act, simulate, command_of, specification_file, Names}
 use Rattle.rsml.specs.FaultLines as lines
 use Rattle.rsml.specs.Headline.{IsCertificate, IsRefusal}
-use Rattle.rsml.specs.Output.{Output}
+use Rattle.rsml.specs.Output.{Output, ReadOutput, IsCertifiedText}
 use Rattle.rsml.specs.Texts.{IsTextOf}
 use Rattle.rsml.specs.Uses.{FileUse, SinkUse, ReadRefused, WriteRefused, Writes, WritesPrefix, WritesNothing}
 use Rattle.rsml.specs.declared.command.Action.TheVariants as action
@@ -17,13 +20,25 @@ pub record Meeting : Type 0 where
   pub file : Bytes → FileUse
   pub sink : SinkUse
 
--- the file that the command names, if there is one, told these contents
+-- the files that the command names, if there is one, told these contents
 abbrev pub Tells : Meeting → (Bytes → Bytes) → Type 0
-Tells m contents = (c : Command) → command_of m.words ≡ Some c → (m.file c.file).told ≡ Some (contents c.file)
+Tells m contents = (c : Command) (file : Bytes) → command_of m.words ≡ Some c → Names c file → (m.file file).told ≡ Some (contents file)
 
--- a read of the command's file was refused
-abbrev pub CommandReadRefused : Meeting → Type 0
-CommandReadRefused m = (c : Command) × (command_of m.words ≡ Some c) × ReadRefused (m.file c.file)
+-- a read of the command's specification was refused
+abbrev pub SpecificationReadRefused : Meeting → Type 0
+SpecificationReadRefused m = (c : Command) × (command_of m.words ≡ Some c) × ReadRefused (m.file (specification_file c))
+
+-- a read of a file that the command names was refused
+abbrev pub SomeReadRefused : Meeting → Type 0
+SomeReadRefused m = (c : Command) × (file : Bytes) × (command_of m.words ≡ Some c) × Names c file × ReadRefused (m.file file)
+
+-- A read of the event file was refused, when so many of its bytes had been read: its reach, where that is told and the specification is
+-- another file.
+pub record EventReadRefused (m : Meeting) (events : Bytes) (k : ℕ) : Type 0 where
+  pub file : Bytes
+  pub command : command_of m.words ≡ Some (simulate file events)
+  pub refused : ReadRefused (m.file events)
+  pub reach : file ≢ events → (m.file events).reach ≡ Some 0 → (m.file events).reach_after ≡ Some k
 
 -- where the words are no command, the usage line is written, or a write refused; and it is written only there
 pub record IsUsage (m : Meeting) (answer : Status) : Type 0 where
@@ -35,24 +50,32 @@ abbrev pub IsAnswered : Meeting → Status → Type 0
 IsAnswered m answer = answer ≢ status.NoMemory → answer ≢ status.ReadFault → answer ≢ status.WriteFault
     → (contents : Bytes → Bytes) → Tells m contents → (bytes : Bytes) × Output m.words contents answer bytes × Writes m.sink bytes
 
--- a read fault is told, and a read was refused
-abbrev pub TellsReadFault : Meeting → Status → Type 0
-TellsReadFault m answer = answer ≡ status.ReadFault → CommandReadRefused m × Writes m.sink lines.read
+-- What was to be written where a read was refused: the line on it, or behind the trace of the lines of the event file that had been read.
+pub data ReadFaultOutput (m : Meeting) (contents : Bytes → Bytes) (bytes : Bytes) : Type 0 where
+  specification : SpecificationReadRefused m → bytes ≡ lines.read → ReadFaultOutput m contents bytes
+  events : (events : Bytes) (k : ℕ) → EventReadRefused m events k → ReadOutput m.words contents events k bytes
+      → ReadFaultOutput m contents bytes
 
--- after a refused write a prefix of what was to be written stands: of the output, or of the line on a read that was refused too
+-- a read fault is told only where a read of a named file was refused, and then what had been read is written
+abbrev pub TellsReadFault : Meeting → Status → Type 0
+TellsReadFault m answer = answer ≡ status.ReadFault → SomeReadRefused m × ((contents : Bytes → Bytes) → Tells m contents
+    → (bytes : Bytes) × ReadFaultOutput m contents bytes × Writes m.sink bytes)
+
+-- after a refused write a prefix of what was to be written stands: of the output, or of that on a read that was refused too
 abbrev pub LeavesPrefix : Meeting → Status → Type 0
 LeavesPrefix m answer = answer ≡ status.WriteFault → (contents : Bytes → Bytes) → Tells m contents
-    → ((wanted : Status) × (bytes : Bytes) × Output m.words contents wanted bytes × WritesPrefix m.sink bytes) ⊎ (CommandReadRefused m × WritesPrefix m.sink lines.read)
+    → ((wanted : Status) × (bytes : Bytes) × Output m.words contents wanted bytes × WritesPrefix m.sink bytes)
+    ⊎ ((bytes : Bytes) × ReadFaultOutput m contents bytes × WritesPrefix m.sink bytes)
 
 -- where nothing was refused, the answer is that of the contents, or out of memory
 abbrev pub IsComplete : Meeting → Status → Type 0
-IsComplete m answer = (CommandReadRefused m → ⊥) → (WriteRefused m.sink → ⊥) → (contents : Bytes → Bytes) → Tells m contents
+IsComplete m answer = (SomeReadRefused m → ⊥) → (WriteRefused m.sink → ⊥) → (contents : Bytes → Bytes) → Tells m contents
     → (answer ≡ status.NoMemory) ⊎ ((bytes : Bytes) × Output m.words contents answer bytes × Writes m.sink bytes)
 
 -- The command is `check`, and its file told this text.
 pub record Checks (m : Meeting) (text : Bytes) : Type 0 where
   pub file : Bytes
-  pub command : command_of m.words ≡ Some (with_file file action.Check)
+  pub command : command_of m.words ≡ Some (act action.Check file)
   pub told : (m.file file).told ≡ Some text
 
 -- Where `check` ends with Done, the text of its file reads as a specification, and its certificate was written.
@@ -65,7 +88,28 @@ abbrev pub Refuses : Meeting → Status → Type 0
 Refuses m answer = answer ≡ status.Refused → (text : Bytes) → Checks m text
     → (s : Spec) × (bytes : Bytes) × IsTextOf text s × IsRefusal s bytes × Writes m.sink bytes
 
--- All that `run` promises; the headline is in the fields `certified` and `refused`.
+-- The command is `simulate`, and its files told this text and these events.
+pub record Simulates (m : Meeting) (text content : Bytes) : Type 0 where
+  pub file : Bytes
+  pub events : Bytes
+  pub command : command_of m.words ≡ Some (simulate file events)
+  pub told : (m.file file).told ≡ Some text
+  pub told_events : (m.file events).told ≡ Some content
+
+-- Of a certified specification the event file is well-formed, and the bytes are the trace of its only run.
+pub record IsTraced (s : Spec) (content bytes : Bytes) : Type 0 where
+  pub well_formed : IsWellFormed s program_limits content
+  pub run : List Reaction
+  pub is_run : IsRun s (lines_of content) run
+  pub only : (other : List Reaction) → IsRun s (lines_of content) other → other ≡ run
+  pub text : bytes ≡ whole_trace s run
+
+-- Where `simulate` ends with Done, the text reads as a specification that is certified, and the trace of the only run was written.
+abbrev pub Traces : Meeting → Status → Type 0
+Traces m answer = answer ≡ status.Done → (text content : Bytes) → Simulates m text content
+    → (s : Spec) × (bytes : Bytes) × IsCertifiedText text s × IsTraced s content bytes × Writes m.sink bytes
+
+-- All that `run` promises; the headline is in the fields `certified`, `refused` and `traced`.
 pub record Runs (m : Meeting) (answer : Status) : Type 0 where
   pub answered : IsAnswered m answer
   pub usage : IsUsage m answer
@@ -76,3 +120,4 @@ pub record Runs (m : Meeting) (answer : Status) : Type 0 where
   pub complete : IsComplete m answer
   pub certified : Certifies m answer
   pub refused : Refuses m answer
+  pub traced : Traces m answer

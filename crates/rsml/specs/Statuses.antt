@@ -8,6 +8,7 @@ abbrev pub number : Status → ℕ
 number status.Done = 0
 number status.Refused = 1
 number status.SpecFault = 2
+number status.EventFault = 3
 number status.Usage = 4
 number status.ReadFault = 5
 number status.WriteFault = 6

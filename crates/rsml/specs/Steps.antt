@@ -1,5 +1,5 @@
 -- What the steps of a command leave.
-use Rattle.std.specs.Prelude.{◌≡◌, ◌≢◌, ℕ, ◌⊎◌, List, Some, ⊤}
+use Rattle.std.specs.Prelude.{◌≡◌, ◌≢◌, ℕ, ◌<◌, ◌≤◌, ◌⊎◌, List, length, Some, IfSome, ⊤}
 use Rattle.rsml_ground.specs.Grounded.{IsShort}
 use Rattle.rsml_lexer.specs.Answers.{error_of}
 use Rattle.rsml_lexer.specs.declared.fault.LexError.{LexError}
@@ -7,15 +7,23 @@ use Rattle.rsml_parser.specs.declared.error.ParseError.{ParseError}
 use Rattle.rsml_parser.specs.declared.error.ParseError.TheVariants as parse_errors
 use Rattle.rsml_rules.specs.declared.error.RuleError.{RuleError}
 use Rattle.rsml_rules.specs.declared.error.RuleError.TheVariants as rule_errors
+use Rattle.rsml_meaning.specs.EventFiles.{program_limits}
+use Rattle.rsml_syntax.specs.declared.syntax.Spec.{Spec}
 use Rattle.rsml_syntax.specs.grammar.Places.{IsTokensOf, IsSyntaxFault, IsDepthPlace}
 use Rattle.rsml_syntax.specs.text.Lexing.{Fault}
 use Rattle.rsml_syntax.specs.text.Tokens.{Tokens}
-use Rattle.rsml.specs.Commands.{Bytes}
+use Rattle.simulator.specs.Simulating as simulation
+use Rattle.simulator.specs.declared.sim_end.SimEnd.{SimEnd}
+use Rattle.rsml.specs.Commands.{Bytes, Command, act, simulate}
 use Rattle.rsml.specs.FaultLines as lines
-use Rattle.rsml.specs.Output.{ActionOutput}
-use Rattle.rsml.specs.Texts.{IsTextOf, IsUnread, IsTextByFirst, IsUnreadByFirst}
+use Rattle.rsml.specs.Output.{ActionOutput, CheckOutput, IsCertifiedText, status_of}
+use Rattle.rsml.specs.Texts.{IsTextOf, IsUnread, IsTextByFirst, IsUnreadByFirst, greatest_text}
 use Rattle.rsml.specs.Uses.{FileUse, SinkUse, ReadRefused, WriteRefused, Writes, WritesPrefix, WritesNothing}
 use Rattle.rsml.specs.declared.command.Action.{Action}
+use Rattle.rsml.specs.declared.judging.Judgement.{Judgement}
+use Rattle.rsml.specs.declared.judging.Judgement.TheVariants as judgement
+use Rattle.rsml.specs.declared.simulating.Start.{Start}
+use Rattle.rsml.specs.declared.simulating.Start.TheVariants as start
 use Rattle.rsml.specs.declared.status.Status.{Status}
 use Rattle.rsml.specs.declared.status.Status.TheVariants as status
 use Rattle.rsml.specs.declared.texts.ReadText.{ReadText}
@@ -101,3 +109,65 @@ pub record HasActed (action : Action) (f : FileUse) (k : SinkUse) (answer : Stat
       → (bytes : Bytes) × ActionOutput action text answer bytes × Writes k bytes
   pub prefix : answer ≡ status.WriteFault → (text : Bytes) → f.told ≡ Some text
       → ((wanted : Status) × (bytes : Bytes) × ActionOutput action text wanted bytes × WritesPrefix k bytes) ⊎ (ReadRefused f × WritesPrefix k lines.read)
+
+-- Simulating.
+
+-- the judgement is a certificate
+abbrev pub IsCertified : Judgement → Type 0
+IsCertified (judgement.Certified report checked) = ⊤
+IsCertified _ = ⊥
+
+-- a text with which a simulation starts: the specification that it reads as is certified, or `check` ends otherwise than with Done
+abbrev pub Starts : Bytes → Start → Type 0
+Starts text (start.Certified s) = IsCertifiedText text s
+Starts text (start.Stopped outcome) =
+    (outcome.status ≢ status.Done) × IsOfText outcome.status × CheckOutput text outcome.status outcome.text.items
+
+-- what a simulation meets of an event file and a sink
+abbrev pub meeting : FileUse → SinkUse → simulation.Meeting
+meeting e k = record {
+  told = e.told;
+  reach = e.reach;
+  reach_after = e.reach_after;
+  reads_refused = e.refusals;
+  reads_refused_after = e.refusals_after;
+  written = k.written;
+  written_after = k.written_after;
+  writes_refused = k.refusals;
+  writes_refused_after = k.refusals_after;
+}
+
+-- What the simulation of a certified specification wrote, and how it ended.
+pub data HasRun (s : Spec) (e : FileUse) (k : SinkUse) (answer : Status) : Type 0 where
+  no_memory : answer ≡ status.NoMemory → WritesNothing k → HasRun s e k answer
+  run : (ended : SimEnd) → answer ≡ status_of ended → simulation.Simulates s program_limits (meeting e k) ended → HasRun s e k answer
+
+-- What `simulate` wrote of the text of a specification, and how it ended.
+pub data HasSimulatedText (text : Bytes) (e : FileUse) (k : SinkUse) (answer : Status) : Type 0 where
+  no_memory : answer ≡ status.NoMemory → WritesNothing k → HasSimulatedText text e k answer
+  checked : (wanted : Status) (bytes : Bytes) → wanted ≢ status.Done → IsOfText wanted → CheckOutput text wanted bytes
+      → HasWritten k bytes wanted answer → HasSimulatedText text e k answer
+  simulated : (s : Spec) (ended : SimEnd) → IsCertifiedText text s → answer ≡ status_of ended
+      → simulation.Simulates s program_limits (meeting e k) ended → HasSimulatedText text e k answer
+
+-- What is made of the event file once the specification was read, of all that is made of it.
+pub record IsRestOf (file events : Bytes) (all rest : FileUse) : Type 0 where
+  pub told : rest.told ≡ all.told
+  pub refusals : all.refusals ≤ rest.refusals
+  pub refusals_after : rest.refusals_after ≡ all.refusals_after
+  pub reach : file ≢ events → rest.reach ≡ all.reach
+  pub reach_after : rest.reach_after ≡ all.reach_after
+
+-- What `simulate` wrote of its files, and how it ended.
+pub data HasSimulated (file events : Bytes) (files : Bytes → FileUse) (k : SinkUse) (answer : Status) : Type 0 where
+  no_memory : answer ≡ status.NoMemory → WritesNothing k → HasSimulated file events files k answer
+  unread : ReadRefused (files file) → HasWritten k lines.read status.ReadFault answer → HasSimulated file events files k answer
+  long : IfSome (files file).told (λ text. greatest_text < length text) → HasWritten k lines.long status.TooLong answer
+      → HasSimulated file events files k answer
+  read : (text : Bytes) (rest : FileUse) → IfSome (files file).told (λ told. text ≡ told) → IsRestOf file events (files events) rest
+      → HasSimulatedText text rest k answer → HasSimulated file events files k answer
+
+-- What a command wrote, and how it ended.
+abbrev pub HasObeyed : Command → (Bytes → FileUse) → SinkUse → Status → Type 0
+HasObeyed (act action file) files k answer = HasActed action (files file) k answer
+HasObeyed (simulate file events) files k answer = HasSimulated file events files k answer

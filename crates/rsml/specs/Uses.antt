@@ -4,9 +4,11 @@ use Rattle.rsml_io.specs.Counts.{Rose}
 use Rattle.rsml_io.specs.Writing.{appended, AppendsProperPrefix}
 use Rattle.rsml.specs.Commands.{Bytes}
 
--- What a file told of its bytes, and how often a read of it was refused, before and after.
+-- What a file told of its bytes, how far it was read, and how often a read of it was refused, before and after.
 pub record FileUse : Type 0 where
   pub told : Option Bytes
+  pub reach : Option ℕ
+  pub reach_after : Option ℕ
   pub refusals : ℕ
   pub refusals_after : ℕ
 

@@ -1,5 +1,6 @@
 ghost use Rattle.std.specs.Prelude.{◌≡◌, map, option_map, string_bytes};
-ghost use Rattle.rsml.specs.Commands.{Command as Asked, command_of, action_of, with_file};
+ghost use Rattle.rsml.specs.Asked.{asked};
+ghost use Rattle.rsml.specs.Commands.{action_of, command_of};
 
 /// What a command does with a specification.
 #[derive(Clone, Copy, Debug, PartialEq, Eq)]
@@ -12,11 +13,13 @@ pub enum Action {
     Migrate,
 }
 
-/// A command: an action, and the name of the specification's file.
+/// A command, with the names of its files.
 #[derive(Clone, Copy, Debug)]
-pub struct Command<'a> {
-    pub action: Action,
-    pub file: &'a str,
+pub enum Command<'a> {
+    /// An action on a specification.
+    Act { action: Action, file: &'a str },
+    /// The simulation of a specification over an event file.
+    Simulate { file: &'a str, events: &'a str },
 }
 
 /// The action of a word.
@@ -37,13 +40,21 @@ fn action_called(word: &str) -> Option<Action>
 
 /// The command that the words are, if they are one.
 pub fn command_in(words: &[String]) -> Option<Command<'_>>
-    ensures { option_map (λ c. with_file c.file.now c.action) result ≡ command_of (map (λ word. string_bytes word) words.now) }
+    ensures { option_map asked result ≡ command_of (map (λ word. string_bytes word) words.now) }
 {
     match words {
         [word, file] => {
             let action = action_called(word.as_str())?;
             let file = file.as_str();
-            Some(Command { action, file })
+            Some(Command::Act { action, file })
+        }
+        [word, file, events] => {
+            let file = file.as_str();
+            let events = events.as_str();
+            if word.as_str() == "simulate" {
+                return Some(Command::Simulate { file, events });
+            }
+            None
         }
         _ => None,
     }

@@ -1,10 +1,14 @@
 ghost use Rattle.rsml.specs.Laws.{OutputIsOne};
 
+use one_run::event_files_have_one_run;
 use rsml_lexer::{at_most_one_first_fault, at_most_one_token_list, never_both};
-use rsml_meaning::a_report_is_one_text;
+use rsml_meaning::{
+    a_first_fault_is_of_a_line, a_report_is_one_text, well_formed_files_have_no_fault,
+};
 use rsml_parser::tokens_have_one_answer;
+use rsml_scopes::rules_give_scopes;
 
-/// What a command answers and writes is one thing, by its words and what its file holds.
+/// What a command answers and writes is one thing, by its words and what its files hold.
 pub fn an_output_is_one()
     ensures { OutputIsOne }
 {
@@ -13,4 +17,8 @@ pub fn an_output_is_one()
     never_both();
     tokens_have_one_answer();
     a_report_is_one_text();
+    well_formed_files_have_no_fault();
+    a_first_fault_is_of_a_line();
+    rules_give_scopes();
+    event_files_have_one_run();
 }

@@ -3,10 +3,12 @@
 
 mod command;
 mod fault_lines;
+mod finishing;
 mod judging;
 mod laws;
 mod outcome;
 mod running;
+mod simulating;
 mod status;
 mod texts;
 

@@ -5,7 +5,7 @@ ghost use Rattle.rsml_syntax.specs.grammar.WellFormed.{WellFormed};
 ghost use Rattle.rsml.specs.FaultLines as lines;
 ghost use Rattle.rsml.specs.Judgements.{IsJudgement};
 ghost use Rattle.rsml.specs.Output.{ActionOutput, CheckOutput, FormatOutput, MigrateOutput};
-ghost use Rattle.rsml.specs.Steps.{IsOfText};
+ghost use Rattle.rsml.specs.Steps.{IsCertified, IsOfText};
 
 use crate::command::Action;
 use crate::judging::{Judgement, judge};
@@ -39,10 +39,11 @@ fn too_long(alloc: Global) -> Result<Outcome, NoMemory>
 }
 
 /// What `check` comes to, by what the text is judged to be.
-fn judged(alloc: Global, judgement: Judgement) -> Result<Outcome, NoMemory>
+pub fn judged(alloc: Global, judgement: Judgement) -> Result<Outcome, NoMemory>
     ensures output { (text : List ℕ) → IsJudgement text judgement
         → IfOk result (λ o. CheckOutput text o.status o.text.items) }
     ensures status { IfOk result (λ o. IsOfText o.status) }
+    ensures done { IfOk result (λ o. o.status ≡ Status.Done → IsCertified judgement) }
 {
     match judgement {
         Judgement::TooLong => too_long(alloc),

@@ -1,32 +1,17 @@
 ghost use Rattle.std.specs.Prelude.{◌≡◌, map, string_bytes, List, ℕ};
+ghost use Rattle.rsml.specs.Asked.{asked};
 ghost use Rattle.rsml.specs.Promises.{Runs};
 ghost use Rattle.rsml.specs.Steps as steps;
 
-use crate::command::{Action, command_in};
+use crate::command::{Action, Command, command_in};
+use crate::finishing::finish;
 use crate::outcome::outcome_of;
+use crate::simulating::simulate;
 use crate::status::Status;
-use rsml_io::{Files, ReadError, Sink, read_all, write_all};
+use crate::texts::GREATEST_FILE;
+use rsml_io::{Files, ReadError, Sink, read_all};
 use rsml_syntax::NoMemory;
 use std::alloc::Global;
-
-/// How many bytes of a specification are read.
-const GREATEST_FILE: u64 = 1_048_576;
-
-/// Writes bytes as all that a command writes.
-fn finish<K: Sink>(sink: &mut K, bytes: &[u8], status: Status) -> Status
-    requires { steps.IsWritten status }
-    ensures { steps.HasWritten (record {
-      written = K.written sink.old;
-      written_after = K.written sink.new;
-      refusals = K.faults sink.old;
-      refusals_after = K.faults sink.new;
-    }) bytes.now status result }
-{
-    match write_all(sink, bytes) {
-        Ok(()) => status,
-        Err(_) => Status::WriteFault,
-    }
-}
 
 /// Reads the file, and writes what the action comes to on its text.
 fn act<F: Files, K: Sink>(
@@ -38,6 +23,8 @@ fn act<F: Files, K: Sink>(
 ) -> Status
     ensures acted { steps.HasActed action (record {
       told = F.contents files.old file.now;
+      reach = F.reach files.old file.now;
+      reach_after = F.reach files.new file.now;
       refusals = F.faults files.old file.now;
       refusals_after = F.faults files.new file.now;
     }) (record {
@@ -71,6 +58,33 @@ fn act_on<K: Sink>(alloc: Global, action: Action, text: &[u8], sink: &mut K) -> 
     }
 }
 
+/// Does what a command asks for.
+fn obey<F: Files, K: Sink>(
+    alloc: Global,
+    command: Command<'_>,
+    files: &mut F,
+    sink: &mut K,
+) -> Status
+    ensures obeyed { steps.HasObeyed (asked command.entry) (λ name. record {
+      told = F.contents files.old name;
+      reach = F.reach files.old name;
+      reach_after = F.reach files.new name;
+      refusals = F.faults files.old name;
+      refusals_after = F.faults files.new name;
+    }) (record {
+      written = K.written sink.old;
+      written_after = K.written sink.new;
+      refusals = K.faults sink.old;
+      refusals_after = K.faults sink.new;
+    }) result }
+    ensures contents { (file : List ℕ) → F.contents files.new file ≡ F.contents files.old file }
+{
+    match command {
+        Command::Act { action, file } => act(alloc, action, file, files, sink),
+        Command::Simulate { file, events } => simulate(alloc, file, events, files, sink),
+    }
+}
+
 /// Runs the command that the words are. They are those after the program's name.
 pub fn run<F: Files, K: Sink>(
     alloc: Global,
@@ -82,6 +96,8 @@ pub fn run<F: Files, K: Sink>(
       words = map (λ word. string_bytes word) words.now;
       file = λ name. record {
         told = F.contents files.old name;
+        reach = F.reach files.old name;
+        reach_after = F.reach files.new name;
         refusals = F.faults files.old name;
         refusals_after = F.faults files.new name;
       };
@@ -95,7 +111,7 @@ pub fn run<F: Files, K: Sink>(
     ensures contents { (file : List ℕ) → F.contents files.new file ≡ F.contents files.old file }
 {
     match command_in(words) {
-        Some(command) => act(alloc, command.action, command.file, files, sink),
+        Some(command) => obey(alloc, command, files, sink),
         None => finish(sink, b"usage: rsml COMMAND WORDS\n", Status::Usage),
     }
 }

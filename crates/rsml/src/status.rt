@@ -9,6 +9,8 @@ pub enum Status {
     Refused,
     /// The specification does not read, or breaks a rule or a limit.
     SpecFault,
+    /// A line of the event file breaks a rule, or is too long.
+    EventFault,
     /// The words are no command.
     Usage,
     /// A read was refused.
@@ -17,7 +19,7 @@ pub enum Status {
     WriteFault,
     /// Memory was refused. Nothing was written.
     NoMemory,
-    /// The specification is too long.
+    /// The specification or the event file is too long.
     TooLong,
 }
 
@@ -32,6 +34,7 @@ impl Status {
             Status::Done => 0,
             Status::Refused => 1,
             Status::SpecFault => 2,
+            Status::EventFault => 3,
             Status::Usage => 4,
             Status::ReadFault => 5,
             Status::WriteFault => 6,

@@ -11,6 +11,9 @@ use rsml_parser::parse;
 use rsml_syntax::{NoMemory, Placed, Spec, renamed};
 use std::alloc::Global;
 
+/// How many bytes of a specification's file are read.
+pub const GREATEST_FILE: u64 = 1_048_576;
+
 /// What a text reads as: a specification, or the line that tells its first fault.
 #[derive(Drop)]
 pub enum ReadText {

@@ -1,0 +1,65 @@
+#!/usr/bin/env bash
+# Compares `simulate` with simulators in plain Rust that were written for one specification each, on random event files, through real
+# files to a pipe: the lamp, Tcas, and the plant of 64 units, of which each reacts to each event.
+#     bench/simulate.sh [EVENTS [TURNS]]
+# A line for each: milliseconds of ours, which contain the check of the specification, and of the plain one, each the least of TURNS
+# (3) runs by turns; their ratio; and how many rounds ours makes in a second. Both traces are compared first. Then the greatest
+# resident memory of ours for files of 10,000 and of ten times EVENTS events. It ends with status 1 where two traces are different.
+# PROGRAM=FILE takes a program that is built already.
+set -eu
+cd "$(dirname "$0")/.."
+events=${1:-1000000}
+turns=${2:-3}
+work=$(mktemp -d)
+trap 'rm -rf "$work"' EXIT
+source bench/texts.sh
+
+rustc -O -o "$work/plain" bench/simulate.rs
+if [ -z "${PROGRAM:-}" ]; then
+  (cd crates/rsml_main && rt run -- check data/lamp.rsml > /dev/null)
+  PROGRAM=crates/rsml_main/out/rsml_main
+fi
+
+# file TASK COUNT: an event file with so many events.
+file() {
+  case $1 in
+    lamp) awk -v n="$2" 'BEGIN { srand(1); for (i = 0; i < n; i++) print "Set Lever=" (rand() < 0.5 ? "Up" : "Down") }' ;;
+    tcas) awk -v n="$2" 'BEGIN { srand(2); for (i = 0; i < n; i++) if (rand() < 0.1)
+        print "Pilot Selector=" (rand() < 0.8 ? "Active" : "Standby") " Own_Alt=" int(rand() * 61001) - 1000
+      else print "Radar[" 1 + int(rand() * 30) "] Tau=" int(rand() * 256) }' ;;
+    demo) awk -v n="$2" 'BEGIN { srand(3); for (i = 0; i < n; i++) print "Load[" 1 + int(rand() * 64) "] Depth=" int(rand() * 1000) }' ;;
+  esac
+}
+
+# ours TASK, plain TASK: the trace of the event file of a task.
+ours() { "$PROGRAM" simulate "$work/$1.rsml" "$work/$1.events"; }
+plain() { "$work/plain" "$1" "$work/$1.events"; }
+
+# milliseconds WHO TASK: of one run to a pipe.
+milliseconds() {
+  local start
+  start=$(date +%s%N)
+  "$1" "$2" | cat > /dev/null
+  echo $((($(date +%s%N) - start) / 1000000))
+}
+
+cp examples/lamp.rsml examples/tcas.rsml "$work"
+demo 64 > "$work/demo.rsml"
+printf '%-6s %10s %10s %10s %7s %10s %6s\n' task events ours plain ratio rounds/s aim
+for task in lamp tcas demo; do
+  file $task "$events" > "$work/$task.events"
+  cmp <(ours $task) <(plain $task) || { echo "$task: another trace"; exit 1; }
+  rounds=$(plain $task | grep -c '^  round')
+  for _ in $(seq "$turns"); do
+    milliseconds ours $task >> "$work/$task.ours"
+    milliseconds plain $task >> "$work/$task.plain"
+  done
+  awk -v task=$task -v events="$events" -v rounds="$rounds" -v ours="$(sort -n "$work/$task.ours" | head -1)" \
+    -v plain="$(sort -n "$work/$task.plain" | head -1)" \
+    'BEGIN { printf "%-6s %10d %7d ms %7d ms %7.2f %10.0f %6.2f\n", task, events, ours, plain, ours / (plain + 0.001), 1000 * rounds / ours, 1.5 }'
+done
+for count in 10000 $((10 * events)); do
+  file lamp "$count" > "$work/lamp.events"
+  printf 'lamp, %d events: ' "$count"
+  { command time -f 'most memory %M KB' "$PROGRAM" simulate "$work/lamp.rsml" "$work/lamp.events" > /dev/null; } 2>&1
+done

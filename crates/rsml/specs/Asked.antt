@@ -1,0 +1,9 @@
+-- What a command of the program asks for.
+use Rattle.rsml.specs.Commands.{Command, act, simulate}
+use Rattle.rsml.specs.declared.command.Command.{Command as Given}
+use Rattle.rsml.specs.declared.command.Command.TheVariants as given
+
+-- the same command, with the bytes of its names
+abbrev pub asked : Given → Command
+asked (given.Act action file) = act action file.now
+asked (given.Simulate file events) = simulate file.now events.now
