@@ -77,8 +77,8 @@ def clash_line(it, start, clash):
     return f"clash {instance_text(start)} round {count} {instance_text(it.events[one])} {instance_text(it.events[other])}"
 
 
-def report(text):
-    it = Reading(text)
+def report(text, reading=Reading):
+    it = reading(text)
     groups, starts = it.groups(), it.starts()
     lines = [f"specification {it.tokens[1]}", f"groups {len(groups)}"]
     lines += [f"chain {instance_text(event)} {it.length(event) or 'endless'}" for event in starts]

@@ -1,0 +1,46 @@
+#!/bin/sh
+# Tells where what PROGRAM writes of the whole specifications among the examples differs from what is stored beside them.
+#
+#     tools/same_texts.sh PROGRAM         compares the reports and the traces of each folder of examples/
+#     tools/same_texts.sh PROGRAM check   compares the reports alone
+#
+# In a folder NAME with a file NAME.rsml these are NAME.report and mistaken.report, of NAME.rsml and mistaken.rsml, and NAME.trace, of NAME.rsml with
+# NAME.events. The last line is `N texts same, M different`.
+set -u
+case ${1:?"PROGRAM is missing"} in
+    /*) program=$1 ;;
+    *) program=$PWD/$1 ;;
+esac
+commands=${2:-all}
+cd "$(dirname "$0")/../examples" || exit 2
+work=$(mktemp -d) || exit 2
+trap 'rm -rf "$work"' EXIT
+same=0
+different=0
+
+# compare TEXT STATUS WORD..: whether PROGRAM with these words writes a stored text, and ends with a status.
+compare() {
+    text=$1
+    wanted=$2
+    shift 2
+    "$program" "$@" > "$work/text" 2> "$work/error"
+    status=$?
+    if [ $status -eq "$wanted" ] && cmp -s "$text" "$work/text"; then
+        same=$((same + 1))
+    else
+        different=$((different + 1))
+        printf 'examples/%s: `%s` has status %s, wanted %s\n' "$text" "$*" $status "$wanted"
+        diff "$text" "$work/text" | head -n 10
+        head -n 3 "$work/error"
+    fi
+}
+
+for folder in */; do
+    name=${folder%/}
+    [ -f "$name/$name.rsml" ] || continue
+    compare "$name/$name.report" 0 check "$name/$name.rsml"
+    compare "$name/mistaken.report" 1 check "$name/mistaken.rsml"
+    [ "$commands" = check ] || compare "$name/$name.trace" 0 simulate "$name/$name.rsml" "$name/$name.events"
+done
+printf '%s texts same, %s different\n' $same $different
+[ $different -eq 0 ]
