@@ -3,8 +3,8 @@
 # A line for each specification: its bytes, groups and findings, the milliseconds of `format` (reading and writing the layout) and of
 # `check` (each the least of TURNS (3) runs), their ratio, and the greatest resident memory of `check`. Behind it, where `valgrind` is
 # there and the check takes less than two seconds, the share of each stage in the instructions of `check`: reading (lexer and parser),
-# rules and limits, the machine with its event chains, the diagrams of states and phrases, and the groups (their verdicts with
-# counterexamples, and the report).
+# rules and limits, the machine, the diagrams of states and phrases, and the groups (event chains, verdicts with counterexamples, and
+# the report).
 # It ends with status 1 where a text is no specification that keeps the rules. PROGRAM=FILE takes a program that is built already.
 set -eu
 cd "$(dirname "$0")/.."
@@ -105,8 +105,8 @@ shares() {
     whole && match($0, /:[a-z_:A-Z]+ \[/) { name = substr($0, RSTART + 1, RLENGTH - 3); gsub(",", "", $1); if (!(name in of)) of[name] = $1 }
     END {
       part["reading"] = count("rsml::texts::read_text"); part["rules"] = count("rsml_rules::checking::judge")
-      analysis = count("analysis::analysing::analysis"); rest = count("analysis::analysing::with_chains")
-      part["machine"] = analysis - rest; part["diagrams"] = count("guard_encode::encoder::Encoder::new"); part["groups"] = rest - part["diagrams"]
+      part["machine"] = count("elaborate::machine::elaborate"); part["diagrams"] = count("guard_encode::encoder::Encoder::new")
+      part["groups"] = count("analysis::analysing::with_machine") - part["diagrams"]
       split("reading rules machine diagrams groups", names, " ")
       for (n = 1; n <= 5; n++) printf " %7.0f%%", 100 * part[names[n]] / whole
     }' "$1"
