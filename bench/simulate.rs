@@ -100,6 +100,16 @@ fn put_event(out: &mut Out, event: u64, interface: &[u8], index: usize) -> io::R
     out.write_all(b"\n")
 }
 
+/// The transition of something that was on or off and now is, as a label has it. All three machines have these four.
+fn switched(was_on: bool, is_on: bool) -> &'static [u8] {
+    match (was_on, is_on) {
+        (false, true) => b"1 move Off -> On\n",
+        (false, false) => b"2 stay Off\n",
+        (true, false) => b"3 move On -> Off\n",
+        (true, true) => b"4 stay On\n",
+    }
+}
+
 /// A machine that follows messages: it writes what one does, or answers that it can't read it.
 trait Machine {
     fn follow(&mut self, out: &mut Out, event: u64, message: Message<'_>) -> io::Result<bool>;
@@ -122,12 +132,7 @@ impl Machine for Lamp {
         }
         put_event(out, event, b"Set", 0)?;
         out.write_all(b"  round 1 Tick\n    take Lamp ")?;
-        out.write_all(match (self.is_on, up) {
-            (false, true) => b"1 move Off -> On\n".as_slice(),
-            (false, false) => b"2 stay Off\n",
-            (true, false) => b"3 move On -> Off\n",
-            (true, true) => b"4 stay On\n",
-        })?;
+        out.write_all(switched(self.is_on, up))?;
         self.is_on = up;
         Ok(true)
     }
@@ -164,12 +169,7 @@ impl Tcas {
     fn select(&mut self, out: &mut Out, event: u64, active: bool, height: i64) -> io::Result<bool> {
         put_event(out, event, b"Pilot", 0)?;
         out.write_all(b"  round 1 Own\n    take Tcas.Mode ")?;
-        out.write_all(match (self.is_on, active) {
-            (false, true) => b"1 move Off -> On\n".as_slice(),
-            (false, false) => b"2 stay Off\n",
-            (true, false) => b"3 move On -> Off\n",
-            (true, true) => b"4 stay On\n",
-        })?;
+        out.write_all(switched(self.is_on, active))?;
         let shows = self.is_on || active;
         self.is_on = active;
         self.height = height;
@@ -265,14 +265,9 @@ impl Machine for Demo {
         let leaves = self.are_on.iter().all(|on| *on) || self.depths.iter().all(|depth| *depth < 500);
         for ((on, depth), name) in self.are_on.iter_mut().zip(&self.depths).zip(&self.names) {
             out.write_all(name)?;
-            let (next, rest) = match (*on, *depth >= 500) {
-                (false, true) => (true, b"1 move Off -> On\n".as_slice()),
-                (false, false) => (false, b"2 stay Off\n".as_slice()),
-                (true, _) if leaves => (false, b"3 move On -> Off\n".as_slice()),
-                (true, _) => (true, b"4 stay On\n".as_slice()),
-            };
+            let next = if *on { !leaves } else { *depth >= 500 };
+            out.write_all(switched(*on, next))?;
             *on = next;
-            out.write_all(rest)?;
         }
         Ok(true)
     }

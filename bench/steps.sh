@@ -11,6 +11,7 @@ cd "$(dirname "$0")/.."
 turns=${1:-100}
 work=$(mktemp -d)
 trap 'rm -rf "$work"' EXIT
+source bench/texts.sh
 
 # draw NAME PROGRAM: the event lines of a machine, by an awk program that writes one; `below(n)` draws a number below n.
 draw() {
@@ -25,26 +26,7 @@ cp crates/step_bench/data/display.rsml "$work/display"
 draw display 'if (k = below(31)) print "Radar[" k "] Tau=" below(256);
   else print "Pilot Selector=" (below(4) ? "Active" : "Standby") " Own_Alt=" below(61001) - 1000'
 
-cat > "$work/plant" <<'TEXT'
-specification Plant;
-range Level 0 .. 999;
-input Depth [64] : Level = 0;
-event Go;
-macro Full { every k of 64 : in Plant.Unit[k].On | T; }
-macro High { some k of 64 : Depth[k] >= 500 | T; }
-receive Load [64] (Depth[this]) raise Go;
-state Plant all {
-  array Unit [64] one {
-    default Off;
-    state Off;
-    state On;
-    move Off -> On on Go when { Depth[this] >= 500 | T; };
-    stay Off on Go when { Depth[this] >= 500 | F; };
-    move On -> Off on Go when { macro Full | T .; macro High | . F; };
-    stay On on Go when { macro Full | F; macro High | T; };
-  }
-}
-TEXT
+demo 64 > "$work/plant"
 draw plant 'k = below(64); print "Load[" k + 1 "] Depth=" below(1000)'
 
 # 992 units of four states with eight transitions each, of which two are on the event of the unit; and one component of 30 states
