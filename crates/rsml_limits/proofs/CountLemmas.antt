@@ -1,18 +1,24 @@
 -- The lowest limit that is broken.
-use Rattle.std.proofs.Common.{◌≡◌, ℕ, ◌+◌, length, get_or, drop, map, ◌<◌, ◌≤◌, Bool, true, false, List, ◌∷◌, Option, Some, lit<, refl, sym, ap, ◌∙◌, arith}
+use Rattle.std.proofs.Common.{◌≡◌, ℕ, ◌+◌, ◌*◌, length, get_or, drop, map, ◌<◌, ◌≤◌, Bool, true, false, List, ◌∷◌, Option, Some, lit<, refl, sym, ap, ◌∙◌, arith}
+use Rattle.std.specs.Prelude.{if◌then◌else◌}
 use Rattle.std.proofs.lemmas.Bool.{lt-ltb, le-ltb}
 use Rattle.std.proofs.lemmas.List.{drop_more}
+use Rattle.rsml_syntax.specs.declared.syntax.Decl.TheVariants as decl
 use Rattle.rsml_syntax.specs.declared.syntax.Spec.{Spec}
-use Rattle.rsml_syntax.specs.rules.Globals.{globals}
+use Rattle.rsml_syntax.specs.rules.Globals.{globals, many}
 use Rattle.rsml_syntax.specs.limits.Limits.{Limit, cells_at, first_over, shown}
-use Rattle.rsml_syntax.specs.grammar.Parts.{parts}
+use Rattle.rsml_syntax.specs.grammar.Parts.{Part, Declared, parts}
 use Rattle.rsml_limits.specs.declared.counts.counted.Counted.{Counted}
 use Rattle.rsml_limits.specs.declared.counts.counted.Counted.TheVariants as kinds
 use Rattle.rsml_limits.specs.counts.Counting.{CountedNames, counted_names, count_of, cells_among}
 use Rattle.rsml_limits.specs.counts.CountLimits.{limit_of}
-use Rattle.rsml_limits.specs.counts.PreviousNames.{previous_names}
+use Rattle.previous_names.specs.PreviousNames.{previous_names}
 use Rattle.rsml_limits.proofs.Adding.{adds_same}
-use Rattle.rsml_limits.proofs.NamedAfter.{cells_same}
+use Rattle.previous_names.proofs.NamedAfter.{previous_is}
+
+cells_same : (s : Spec) (part : Part) → cells_among (previous_names s) (globals s.decls) part ≡ cells_at s (globals s.decls) part
+cells_same s (Declared place (decl.Input name size kind initial)) = ap (λ (b : Bool). many (globals s.decls) size * (if b then 2 else 1)) (previous_is s name)
+cells_same s _ = refl
 
 count_is : (k : Counted) (s : Spec) → count_of k (counted_names s) s ≡ (limit_of k).count s
 count_is kinds.States s = refl

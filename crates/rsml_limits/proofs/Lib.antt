@@ -1,8 +1,6 @@
 pub mod Adding
 pub mod CountChildren
-pub mod PreviousGathering
 pub mod CountLemmas
-pub mod NamedAfter
 pub mod SourceLemmas
 pub mod PartsLemmas
 pub mod Asking

@@ -1,3 +1,2 @@
 pub mod CountLimits
 pub mod Counting
-pub mod PreviousNames

@@ -5,9 +5,7 @@ mod counted;
 mod counted_names;
 mod declarations;
 mod lowest;
-mod previous;
 mod rows;
 mod states;
 
 pub use lowest::lowest_count_over;
-pub use previous::previous_names;

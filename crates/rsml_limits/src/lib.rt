@@ -7,5 +7,4 @@ mod keys;
 mod over;
 mod thresholds;
 
-pub use counts::previous_names;
 pub use over::{Over, lowest_over};

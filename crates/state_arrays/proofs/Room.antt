@@ -11,7 +11,6 @@ use Rattle.rsml_syntax.specs.rules.Globals.{Globals, globals, many, up_to, indic
 use Rattle.rsml_syntax.specs.limits.Previous.{names_previous}
 use Rattle.rsml_syntax.specs.grammar.Parts.{Part, Declared, Opens, Closes, declared, inside, top_of, parts}
 use Rattle.rsml_syntax.specs.limits.Limits.{Limit, adds, total, limits, states_at, events_at, cells_at, definitions_at, shown, first_over, over}
-use Rattle.rsml_limits.proofs.Adding.{adds_append}
 use Rattle.rsml_meaning.specs.Words.{Instance, at}
 use Rattle.rsml_meaning.specs.Instances.{globals_of, instances, events_of, events}
 use Rattle.state_arrays.specs.Made.{inputs_of, previous_of, definitions_made}
@@ -48,6 +47,10 @@ pub few : (s : Spec) → over s ≡ None → AreFew s
 few s h = few_by s (all_kept s limits h)
 
 -- Counts.
+
+adds_append : {A : Type 0} (f : A → ℕ) (xs ys : List A) → adds f (xs ++ ys) ≡ adds f xs + adds f ys
+adds_append f [] ys = omega arith
+adds_append f (x ∷ xs) ys = omega (arith, adds_append f xs ys)
 
 many_up_to : (n : ℕ) → length (up_to n) ≡ n
 many_up_to zero = refl

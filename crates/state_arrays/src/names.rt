@@ -9,7 +9,7 @@ use crate::input_names::InputNames;
 use crate::instances::Instances;
 use crate::interface_names::InterfaceNames;
 use crate::paths::Paths;
-use rsml_limits::previous_names;
+use previous_names::previous_names;
 use rsml_names::Globals;
 use rsml_syntax::{Checked, NoMemory, Path, Spec};
 use std::alloc::Global;

@@ -1,0 +1,6 @@
+//! The names that stand after `previous` in a specification.
+#![tactic(auto)]
+
+mod previous;
+
+pub use previous::previous_names;
