@@ -1,4 +1,5 @@
-//! Some or each of the phrases of these numbers.
+//! Some or each of the phrases of these numbers. The last comes first, since mostly its levels are the last ones, and a function
+//! grows by a few nodes where the levels of what is joined to it come before its own.
 ghost use Rattle.std.specs.Prelude.{◌<◌, length, All, IfOk};
 ghost use Rattle.std.specs.List.{list_any, list_all};
 ghost use Rattle.bdd_core.specs.Diagram.{IsRef};
@@ -19,8 +20,8 @@ pub fn some_of(arena: &mut Arena, diagrams: &[Ref], numbers: &[u32]) -> Result<R
         list_any (known (truths_at arena.old diagrams.now values)) numbers.now)) }
 {
     let mut out = arena.constant(false);
-    for number in numbers {
-        out = arena.or(out, diagrams[*number as usize])?;
+    for place in (0..numbers.len()).rev() {
+        out = arena.or(diagrams[numbers[place] as usize], out)?;
     }
     Ok(out)
 }
@@ -35,8 +36,8 @@ pub fn each_of(arena: &mut Arena, diagrams: &[Ref], numbers: &[u32]) -> Result<R
         list_all (known (truths_at arena.old diagrams.now values)) numbers.now)) }
 {
     let mut out = arena.constant(true);
-    for number in numbers {
-        out = arena.and(out, diagrams[*number as usize])?;
+    for place in (0..numbers.len()).rev() {
+        out = arena.and(diagrams[numbers[place] as usize], out)?;
     }
     Ok(out)
 }

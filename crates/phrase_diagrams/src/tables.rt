@@ -47,7 +47,7 @@ pub fn table(arena: &mut Arena, diagrams: &[Ref], table: &GroundTable) -> Result
     Ok(out)
 }
 
-/// Where each row's phrase is as the row's cell in this column wants it.
+/// Where each row's phrase is as the row's cell in this column wants it. The last row comes first, as in the lists.
 fn column_of(
     arena: &mut Arena,
     diagrams: &[Ref],
@@ -62,32 +62,33 @@ fn column_of(
         column (map (ground_row (truths_at arena.old diagrams.now values)) rows.now) place)) }
 {
     let mut out = arena.constant(true);
-    for row in rows {
+    for at in (0..rows.len()).rev() {
+        let row = &rows[at];
         out = with_row(
             arena,
-            out,
             cell_at(row, place),
             diagrams[row.phrase as usize],
+            out,
         )?;
     }
     Ok(out)
 }
 
-/// Where `before` is true, and a phrase is as the cell wants it.
-fn with_row(arena: &mut Arena, before: Ref, cell: Cell, phrase: Ref) -> Result<Ref, NoMemory>
-    requires before { IsRef arena.old before }
+/// Where a phrase is as the cell wants it, and `others` is true.
+fn with_row(arena: &mut Arena, cell: Cell, phrase: Ref, others: Ref) -> Result<Ref, NoMemory>
     requires phrase { IsRef arena.old phrase }
+    requires others { IsRef arena.old others }
     ensures keeps { Keeps arena.old arena.new }
     ensures answer { IfOk result (Represents arena.new (λ values.
-        meaning arena.old before values && allows cell (meaning arena.old phrase values))) }
+        allows cell (meaning arena.old phrase values) && meaning arena.old others values)) }
 {
     match cell {
-        Cell::T => arena.and(before, phrase),
+        Cell::T => arena.and(phrase, others),
         Cell::F => {
             let never = arena.constant(false);
-            arena.ite(phrase, never, before)
+            arena.ite(phrase, never, others)
         }
-        Cell::Dot => Ok(before),
+        Cell::Dot => Ok(others),
     }
 }
 
