@@ -2,10 +2,11 @@
 use Rattle.std.proofs.Common.{◌≡◌, ℕ, ◌↔◌, Bool, false, sym, ap, ◌∙◌, subst, true≢false, IsTrue, arith}
 use Rattle.rsml_syntax.specs.declared.syntax.Spec.{Spec}
 use Rattle.rsml_syntax.specs.declared.world.World.{World}
+use Rattle.rsml_meaning.specs.Worlds.{IsWorld}
 use Rattle.bdd_core.specs.Diagram.{IsRef, meaning}
 use Rattle.elaborate.specs.Machine.{GroundMachine}
-use Rattle.guard_encode.specs.Encoding.{Encoding, Keeps, TellsExactly}
-use Rattle.counterexample.specs.Telling.{IsOfSome}
+use Rattle.guard_encode.specs.Encoding.{Encoding, Keeps}
+use Rattle.counterexample.specs.Finding.{IsOfSome}
 
 -- a handle
 pub ref_on : (old new : Encoding) (f : ℕ) → Keeps old new → IsRef old.diagram f → IsRef new.diagram f
@@ -23,7 +24,8 @@ pub on_old : (P : Spec → Type 0) (old new : Encoding) → Keeps old new → P 
 on_old P old new keeps h = subst (λ (m : GroundMachine). P m.base.spec) keeps.machine h
 
 -- what is not false everywhere is true of some world
-pub some_decided : (e : Encoding) (truth : World → Bool) (r : ℕ) (b : Bool) → TellsExactly e truth r
+pub some_decided : (e : Encoding) (truth : World → Bool) (r : ℕ) (b : Bool)
+    → ((values : ℕ → Bool) → meaning e.diagram r values ≡ false) ↔ ((w : World) → IsWorld e.machine.base.spec w → truth w ≡ false)
     → (IsTrue b ↔ ((values : ℕ → Bool) → meaning e.diagram r values ≡ false)) → b ≡ false
     → IsOfSome e truth
-some_decided e truth r b exact decides is_not = λ none. true≢false (sym (decides.1 (exact.none.1 none)) ∙ is_not)
+some_decided e truth r b exact decides is_not = λ none. true≢false (sym (decides.1 (exact.1 none)) ∙ is_not)

@@ -1,8 +1,8 @@
 -- The least number, between bounds that come together.
-use Rattle.std.proofs.Common.{◌≡◌, Bool, true, false, ◌&&◌, refl, sym, ◌∙◌, true≢false, not, int_le, pos, ◌+ℤ◌, ◌-ℤ◌, ◌<ℤ◌, ℤ, IsTrue, arith}
+use Rattle.std.proofs.Common.{◌≡◌, Bool, true, false, ◌&&◌, refl, sym, ◌∙◌, true≢false, int_le, pos, ◌+ℤ◌, ◌<ℤ◌, ℤ, IsTrue, arith}
 use Rattle.std.specs.Bool.{⊤}
 use Rattle.std.specs.Cmp.{first_so, second_so}
-use Rattle.std.specs.Ordering.{MatchOrdering, int_cmp}
+use Rattle.std.specs.Ordering.{MatchOrdering, int_cmp, int_eq}
 use Rattle.std.specs.declared.cmp.Ordering.{Ordering}
 use Rattle.std.specs.declared.cmp.Ordering.TheVariants.{Less, Equal, Greater}
 use Rattle.std.proofs.lemmas.Cmp.{int_ranked}
@@ -92,11 +92,17 @@ at_number truth number most w k e = λ i. k i && within i
     within : int_le (number w) most ≡ true
     within = grind (arith, ints)
 
--- and above the one before
-pub past_number : (truth : World → Bool) (number : World → ℤ) (most before : ℤ) → before ≡ most -ℤ pos 1 → (w : World) → IsTrue (truth w)
-    → number w ≡ most
-    → IsTrue ((truth w && int_le (number w) most) && not (int_le (number w) before))
-past_number truth number most before less w k e = λ i. at_number truth number most w k e i && not (above i)
+-- what has just the number is
+pub up_to_number : (truth : World → Bool) (number : World → ℤ) (most : ℤ) (w : World) → IsTrue (truth w && int_eq (number w) most)
+    → IsTrue (truth w && int_le (number w) most)
+up_to_number truth number most w k = λ i. first_so (truth w) (int_eq (number w) most) k i && within (second_so (truth w) (int_eq (number w) most) k) i
   where
-    above : int_le (number w) before ≡ false
-    above = grind (arith, ints)
+    within : int_eq (number w) most ≡ true → int_le (number w) most ≡ true
+    within e = grind (arith, ints)
+
+pub just_number : (truth : World → Bool) (number : World → ℤ) (most : ℤ) (w : World) → IsTrue (truth w) → number w ≡ most
+    → IsTrue (truth w && int_eq (number w) most)
+just_number truth number most w k e = λ i. k i && same i
+  where
+    same : int_eq (number w) most ≡ true
+    same = grind (arith, ints)

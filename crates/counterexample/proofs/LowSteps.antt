@@ -12,7 +12,7 @@ use Rattle.rsml_meaning.specs.Worlds.{IsWorld}
 use Rattle.guard_encode.specs.declared.reading.ReadParts.{ReadParts}
 use Rattle.guard_encode.specs.Encoding.{Encoding, Keeps}
 use Rattle.counterexample.specs.Narrowing.{IsLow, low_of}
-use Rattle.counterexample.specs.Telling.{Narrowed, NarrowedLow}
+use Rattle.counterexample.specs.Finding.{Narrowed, NarrowedLow}
 use Rattle.counterexample.proofs.Kept.{on_new}
 use Rattle.counterexample.proofs.Low.{is_low, low_is_world, read_value}
 
@@ -31,9 +31,9 @@ alike false false to from = refl
 pub low_already : {A : Type 0} (e : Encoding) (read : ReadParts) (cmp : A → A → Ordering) (part : World → A) (least : A) (f : ℕ)
     → cmp least least ≡ Equal
     → ((w : World) → IsLow e.machine.base.spec read w → part w ≡ least) → NarrowedLow e e read cmp part least f f
-low_already e read cmp part least f itself same = λ truth told of_read some. record {
+low_already e read cmp part least f itself same = λ truth found of_read some. record {
   next = truth;
-  told = told;
+  found = found;
   of_read = of_read;
   narrows = record {
     some = some;
@@ -47,8 +47,8 @@ pub low_too : {A : Type 0} (a b : Encoding) (read : ReadParts) (cmp : A → A �
     → cmp least least ≡ Equal
     → ((w : World) → part (low_of b.machine.base.spec read w) ≡ part w) → Narrowed a b cmp part least f r
     → NarrowedLow a b read cmp part least f r
-low_too a b read cmp part least f r keeps itself same h = λ truth told of_read some.
-    let t = h truth told (λ none. some (λ w is. none w is.is_world)) in
+low_too a b read cmp part least f r keeps itself same h = λ truth found of_read some.
+    let t = h truth found (λ none. some (λ w is. none w is.is_world)) in
     let s = b.machine.base.spec in
     let still = on_new (λ s. (w : World) → IsWorld s w → truth (low_of s read w) ≡ truth w) a b keeps of_read in
     let passes : (w : World) → IsWorld s w → IsTrue (truth w) → part w ≡ least → IsTrue (t.next w) =
@@ -59,7 +59,7 @@ low_too a b read cmp part least f r keeps itself same h = λ truth told of_read 
     (λ k. let v = t.narrows.kept w is k in passes (low_of s read w) (low_is_world s read w is) (still w is ∙ v.0) (same w ∙ v.1)) in
     record {
       next = t.next;
-      told = t.told;
+      found = t.found;
       of_read = next_of_read;
       narrows = record {
         some = λ none. t.narrows.some (λ w is. sym (next_of_read w is) ∙ none (low_of s read w) (is_low s read w is));

@@ -7,9 +7,10 @@ use Rattle.rsml_meaning.specs.Worlds.{IsWorld}
 use Rattle.guard_encode.specs.declared.reading.ReadParts.{ReadParts}
 use Rattle.guard_encode.specs.Encoding.{Encoding, Keeps, Tells}
 use Rattle.guard_encode.specs.Reading.{IgnoresCell, IgnoresChoice}
+use Rattle.guard_encode.proofs.FindLemmas.{found_told}
 use Rattle.counterexample.specs.Least.{IsLeastWorld}
 use Rattle.counterexample.specs.Narrowing.{IsLow, low_of}
-use Rattle.counterexample.specs.Telling.{IsOfSome, NarrowedLow, IsLeastPart}
+use Rattle.counterexample.specs.Finding.{IsOfSome, NarrowedLow, IsLeastPart}
 use Rattle.counterexample.proofs.Kept.{on_new}
 use Rattle.counterexample.proofs.Low.{is_low, of_read_parts}
 use Rattle.counterexample.proofs.Narrowed.{world_fixed, least_found}
@@ -25,8 +26,8 @@ pub world_found : (a b c : Encoding) (read : ReadParts) (choices : List ℕ) (ce
 world_found a b c read choices cells f rest bc no_choice no_cell one other ab truth told some =
     let s = a.machine.base.spec in
     let of_read = of_read_parts s read truth (λ k not. no_choice k not truth told) (λ k not v w is is2 choices cells. no_cell k not truth told v w is is2 (record { choices = choices; cells = cells })) in
-    let t = one truth told of_read (λ none. some (λ w is. sym (of_read w is) ∙ none (low_of s read w) (is_low s read w is))) in
-    let u = other t.next t.told t.of_read t.narrows.some in
+    let t = one truth (found_told a truth f told) of_read (λ none. some (λ w is. sym (of_read w is) ∙ none (low_of s read w) (is_low s read w is))) in
+    let u = other t.next t.found t.of_read t.narrows.some in
     on_new (λ s. IsLeastWorld s truth (record { choices = choices; cells = cells })) b c bc
     (least_found b.machine.base.spec read (record { choices = choices; cells = cells }) truth u.0
     (on_new (λ s. (w : World) → IsWorld s w → truth (low_of s read w) ≡ truth w) a b ab of_read)

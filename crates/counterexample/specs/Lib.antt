@@ -1,3 +1,3 @@
 pub mod Least
 pub mod Narrowing
-pub mod Telling
+pub mod Finding

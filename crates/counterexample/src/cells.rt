@@ -5,9 +5,9 @@ ghost use Rattle.std.specs.Cmp.Lexicographic.{slice_cmp};
 ghost use Rattle.rsml_meaning.specs.Cells.{cells as all_cells};
 ghost use Rattle.bdd_core.specs.Diagram.{IsRef};
 ghost use Rattle.guard_encode.specs.Encoding.{Keeps};
-ghost use Rattle.counterexample.specs.Telling.{Bounded, Narrowed, NarrowedLow, IsLeastPart};
+ghost use Rattle.counterexample.specs.Finding.{Bounded, Narrowed, NarrowedLow, IsLeastPart};
 
-use crate::passing::{exactly, with_at_most};
+use crate::passing::with_at_most;
 use crate::reading::is_read;
 use bdd_core::Ref;
 use guard_encode::{Encoder, ReadParts};
@@ -86,7 +86,7 @@ fn least_number(
         return Ok((low, rest));
     }
     let number = least_by_halving(alloc, encoder, cell, f)?;
-    let rest = exactly(encoder, f, cell, number)?;
+    let rest = encoder.fixed(f, cell, number)?;
     Ok((number, rest))
 }
 

@@ -5,7 +5,7 @@ ghost use Rattle.std.specs.Cmp.Lexicographic.{slice_cmp};
 ghost use Rattle.rsml_meaning.specs.Instances.{components};
 ghost use Rattle.bdd_core.specs.Diagram.{IsRef};
 ghost use Rattle.guard_encode.specs.Encoding.{Keeps};
-ghost use Rattle.counterexample.specs.Telling.{Narrowed, NarrowedLow};
+ghost use Rattle.counterexample.specs.Finding.{Narrowed, NarrowedLow};
 
 use crate::passing::with_child;
 use crate::reading::is_read;

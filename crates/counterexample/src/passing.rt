@@ -1,11 +1,11 @@
 //! Those of the worlds of a function that pass a test.
-ghost use Rattle.std.specs.Prelude.{◌<◌, ◌==◌, ◌&&◌, Bool, not, IfOk, IfSome, int_le, length, pos, slice_index_or};
+ghost use Rattle.std.specs.Prelude.{◌<◌, ◌==◌, Bool, IfOk, IfSome, int_le, length, pos, slice_index_or};
 ghost use Rattle.rsml_syntax.specs.declared.world.World.{World};
 ghost use Rattle.rsml_meaning.specs.Instances.{components};
 ghost use Rattle.rsml_meaning.specs.Cells.{cells};
 ghost use Rattle.bdd_core.specs.Diagram.{IsRef};
 ghost use Rattle.guard_encode.specs.Encoding.{Keeps, Tells};
-ghost use Rattle.counterexample.specs.Telling.{TellsPassing, TellsWith};
+ghost use Rattle.counterexample.specs.Finding.{FindsPassing};
 
 use bdd_core::Ref;
 use guard_encode::Encoder;
@@ -24,7 +24,7 @@ fn passing(
     ensures keeps { Keeps encoder.old encoder.new }
     ensures is_ref { IfOk result (λ found. IfSome found (IsRef encoder.new.diagram)) }
     ensures answer { IfOk result (λ found. (passes : World → Bool) → Tells encoder.old passes test
-        → TellsPassing encoder.old encoder.new passes f found) }
+        → FindsPassing encoder.old encoder.new passes f found) }
 {
     let both = encoder.and(f, test)?;
     let decided = encoder.decided(alloc, both)?;
@@ -46,7 +46,7 @@ pub(crate) fn with_child(
     requires component { component < length (components encoder.old.machine.base.spec) }
     ensures keeps { Keeps encoder.old encoder.new }
     ensures is_ref { IfOk result (λ found. IfSome found (IsRef encoder.new.diagram)) }
-    ensures answer { IfOk result (TellsPassing encoder.old encoder.new (λ w. slice_index_or w.choices component 0 == place) f) }
+    ensures answer { IfOk result (FindsPassing encoder.old encoder.new (λ w. slice_index_or w.choices component 0 == place) f) }
 {
     let test = encoder.choice(component, place)?;
     passing(alloc, encoder, f, test)
@@ -64,57 +64,8 @@ pub(crate) fn with_at_most(
     requires cell { cell < length (cells encoder.old.machine.base.spec) }
     ensures keeps { Keeps encoder.old encoder.new }
     ensures is_ref { IfOk result (λ found. IfSome found (IsRef encoder.new.diagram)) }
-    ensures answer { IfOk result (TellsPassing encoder.old encoder.new (λ w. int_le (slice_index_or w.cells cell (pos 0)) number) f) }
+    ensures answer { IfOk result (FindsPassing encoder.old encoder.new (λ w. int_le (slice_index_or w.cells cell (pos 0)) number) f) }
 {
     let test = encoder.at_most(cell, number)?;
     passing(alloc, encoder, f, test)
-}
-
-/// Where `f` is true and a cell has just this number.
-pub(crate) fn exactly(
-    encoder: &mut Encoder<'_, '_>,
-    f: Ref,
-    cell: u32,
-    number: i64,
-) -> Result<Ref, NoMemory>
-    requires f_ref { IsRef encoder.old.diagram f }
-    requires cell { cell < length (cells encoder.old.machine.base.spec) }
-    ensures keeps { Keeps encoder.old encoder.new }
-    ensures is_ref { IfOk result (IsRef encoder.new.diagram) }
-    ensures answer { IfOk result (λ r. (truth : World → Bool) → Tells encoder.old truth f
-        → TellsWith encoder.new (λ w. slice_index_or w.cells cell (pos 0)) number truth r) }
-{
-    let low = encoder.machine().worlds().low(cell);
-    let rest = up_to(encoder, f, cell, number)?;
-    if number <= low {
-        return Ok(rest);
-    }
-    above(encoder, rest, cell, number - 1)
-}
-
-/// Where `f` is true and a cell has at most a number.
-fn up_to(encoder: &mut Encoder<'_, '_>, f: Ref, cell: u32, number: i64) -> Result<Ref, NoMemory>
-    requires f_ref { IsRef encoder.old.diagram f }
-    requires cell { cell < length (cells encoder.old.machine.base.spec) }
-    ensures keeps { Keeps encoder.old encoder.new }
-    ensures is_ref { IfOk result (IsRef encoder.new.diagram) }
-    ensures answer { IfOk result (λ r. (truth : World → Bool) → Tells encoder.old truth f
-        → Tells encoder.new (λ w. truth w && int_le (slice_index_or w.cells cell (pos 0)) number) r) }
-{
-    let test = encoder.at_most(cell, number)?;
-    encoder.and(f, test)
-}
-
-/// Where `f` is true and a cell has more than a number.
-fn above(encoder: &mut Encoder<'_, '_>, f: Ref, cell: u32, number: i64) -> Result<Ref, NoMemory>
-    requires f_ref { IsRef encoder.old.diagram f }
-    requires cell { cell < length (cells encoder.old.machine.base.spec) }
-    ensures keeps { Keeps encoder.old encoder.new }
-    ensures is_ref { IfOk result (IsRef encoder.new.diagram) }
-    ensures answer { IfOk result (λ r. (truth : World → Bool) → Tells encoder.old truth f
-        → Tells encoder.new (λ w. truth w && not (int_le (slice_index_or w.cells cell (pos 0)) number)) r) }
-{
-    let below = encoder.at_most(cell, number)?;
-    let test = encoder.not(below)?;
-    encoder.and(f, test)
 }

@@ -1,5 +1,5 @@
 -- What functions tell of one cell.
-use Rattle.std.proofs.Common.{◌≡◌, ℕ, zero, suc, ◌+◌, ◌==◌, Bool, true, false, ◌&&◌, ◌||◌, if◌then◌else◌, List, [], ◌∷◌, ◌++◌, map, ◌↔◌, refl, sym, ap, ◌∙◌, subst, arith, slice_index_or, option_to_list, Option, Some, None, ℤ, pos, ◌+ℤ◌, int_le}
+use Rattle.std.proofs.Common.{◌≡◌, ℕ, zero, suc, ◌+◌, ◌==◌, Bool, true, false, ◌&&◌, ◌||◌, if◌then◌else◌, List, [], ◌∷◌, ◌++◌, map, ◌↔◌, refl, sym, ap, ◌∙◌, subst, arith, slice_index_or, option_to_list, Some, None, ℤ, pos, ◌+ℤ◌, int_le}
 use Rattle.std.proofs.lemmas.Bool.{eq-eqb}
 use Rattle.rsml_syntax.specs.declared.world.World.{World}
 use Rattle.rsml_meaning.specs.Cells.{InputCell, cells}
@@ -16,10 +16,9 @@ use Rattle.world_levels.specs.Spelling.{WorldLevels, cell_part, numbers_from, wo
 use Rattle.world_sums.specs.Tells as exact
 use Rattle.elaborate.specs.Machine.{GroundMachine}
 use Rattle.free_levels.specs.Values.{is_in}
-use Rattle.keyed_levels.specs.Keyed.{KeyedWorlds, AreKeyed, Lawful, world_at}
-use Rattle.keyed_levels.specs.Laws.{EachWorldIsSpelledLawfully, LawfulValuesSpellWorlds}
+use Rattle.keyed_levels.specs.Keyed.{KeyedWorlds}
 use Rattle.settled_worlds.specs.Settled.{DependsOn, IsProjected, cell_levels}
-use Rattle.guard_encode.specs.Encoding.{Encoding, IsOfCell, Keeps, Tells, encoding_of, is_at_most, worlds_of}
+use Rattle.guard_encode.specs.Encoding.{Encoding, IsOfCell, Keeps, encoding_of, is_at_most, worlds_of}
 use Rattle.guard_encode.proofs.DecidedLemmas.{same_worlds}
 
 abbrev pub level_list : List Weighted → List ℕ
@@ -70,49 +69,21 @@ same_at slots v w p (suc i) (c ∷ cs) same =
     let e : p + suc i ≡ suc p + i = omega arith in
     same_at slots v w (suc p) i cs (subst (λ q. number q slots v 0 ≡ number q slots w 0) e same)
 
-depends : (k : KeyedWorlds) (cell : ℕ) (n : ℤ) → DependsOn (cell_levels k cell) (is_at_most k cell n)
+pub depends : (k : KeyedWorlds) (cell : ℕ) (n : ℤ) → DependsOn (cell_levels k cell) (is_at_most k cell n)
 depends k cell n one other same =
     ap (λ x. int_le x n) (same_at k.slots one other _ cell (cells k.base.spec) (same_number (cell_part k.base.spec cell) k.slots one other 0 same))
-
--- what is told of a cell, asked for its numbers up to one
-pub asked : EachWorldIsSpelledLawfully → LawfulValuesSpellWorlds → (e : Encoding) (cell : ℕ) (n : ℤ) (truth : World → Bool) (r : ℕ) → AreKeyed (worlds_of e) → IsOfCell e cell truth r
-    → ((values : ℕ → Bool) → (meaning e.diagram r values && is_at_most (worlds_of e) cell n values) ≡ false)
-    ↔ ((w : World) → IsWorld e.machine.base.spec w → (truth w && int_le (slice_index_or w.cells cell (pos 0)) n) ≡ false)
-asked each spell e cell n truth r keyed of =
-    let both = of.same (is_at_most (worlds_of e) cell n) (depends (worlds_of e) cell n) in (
-      λ never w is.
-          let s = each (worlds_of e) keyed w is in
-          subst (λ (x : World). (truth x && int_le (slice_index_or x.cells cell (pos 0)) n) ≡ false) s.spells (both.0 never s.values s.lawful),
-      λ never. both.1 (λ v lawful. never (world_at (worlds_of e) v) (spell (worlds_of e) keyed v)),
-    )
-
--- what f tells of a cell
-pub told_of_cell : (e n : Encoding) (cell f r : ℕ) (truth : World → Bool) → Keeps e n → IsProjected e.diagram n.diagram (worlds_of e) (cell_levels (worlds_of e) cell) f r → Tells e truth f
-    → IsOfCell n cell truth r
-told_of_cell e n cell f r truth keeps projected told = record {
-  is_ref = projected.is_ref;
-  same = λ test. subst
-      (λ (k : KeyedWorlds). DependsOn (cell_levels k cell) test → ((values : ℕ → Bool) → (meaning n.diagram r values && test values) ≡ false)
-      ↔ ((values : ℕ → Bool) → Lawful k values → (truth (world_at k values) && test values) ≡ false))
-      (sym (same_worlds e n keeps))
-      (λ depends. (
-        λ never v lawful. ap (λ b. b && test v) (sym (told.means v lawful)) ∙ (projected.same test depends).0 never v lawful,
-        λ never. (projected.same test depends).1 (λ v lawful. ap (λ b. b && test v) (told.means v lawful) ∙ never v lawful),
-      ));
-}
 
 -- it still is, in an arena that has grown
 pub of_cell_on : (e n : Encoding) (cell : ℕ) (truth : World → Bool) (r : ℕ) → Keeps e n → IsOfCell e cell truth r → IsOfCell n cell truth r
 of_cell_on e n cell truth r keeps of = record {
   is_ref = omega (arith, of.is_ref, keeps.diagram.longer);
-  same = λ test. subst
-      (λ (k : KeyedWorlds). DependsOn (cell_levels k cell) test → ((values : ℕ → Bool) → (meaning n.diagram r values && test values) ≡ false)
-      ↔ ((values : ℕ → Bool) → Lawful k values → (truth (world_at k values) && test values) ≡ false))
-      (sym (same_worlds e n keeps))
-      (λ depends. (
-        λ never. (of.same test depends).0 (λ v. ap (λ b. b && test v) (sym (keeps.diagram.meanings_stay r v of.is_ref)) ∙ never v),
-        λ never v. ap (λ b. b && test v) (keeps.diagram.meanings_stay r v of.is_ref) ∙ (of.same test depends).1 never v,
-      ));
+  same = λ number. subst
+      (λ (k : KeyedWorlds). ((values : ℕ → Bool) → (meaning n.diagram r values && is_at_most k cell number values) ≡ false)
+      ↔ ((w : World) → IsWorld k.base.spec w → (truth w && int_le (slice_index_or w.cells cell (pos 0)) number) ≡ false))
+      (sym (same_worlds e n keeps)) (
+        λ never. (of.same number).0 (λ v. ap (λ b. b && is_at_most (worlds_of e) cell number v) (sym (keeps.diagram.meanings_stay r v of.is_ref)) ∙ never v),
+        λ never v. ap (λ b. b && is_at_most (worlds_of e) cell number v) (keeps.diagram.meanings_stay r v of.is_ref) ∙ (of.same number).1 never v,
+      );
 }
 
 -- what is projected over an encoder's own levels

@@ -10,3 +10,5 @@ pub mod MemberLemmas
 pub mod CellLemmas
 pub mod ReadLemmas
 pub mod MarkLemmas
+pub mod SpellingLemmas
+pub mod FindLemmas

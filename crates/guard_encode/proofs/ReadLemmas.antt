@@ -10,7 +10,7 @@ use Rattle.std.proofs.lemmas.Option.{same_Some, unwrap_or-slice_get}
 use Rattle.rsml_syntax.specs.declared.syntax.Spec.{Spec}
 use Rattle.rsml_syntax.specs.declared.world.World.{World}
 use Rattle.rsml_meaning.specs.Instances.{components}
-use Rattle.rsml_meaning.specs.Cells.{InputCell, cells}
+use Rattle.rsml_meaning.specs.Cells.{cells}
 use Rattle.rsml_meaning.specs.Worlds.{IsWorld}
 use Rattle.rsml_ground.specs.declared.phrases.GroundPhrase.{GroundPhrase}
 use Rattle.rsml_ground.specs.declared.phrases.GroundPhrase.TheVariants as phrases
@@ -23,7 +23,7 @@ use Rattle.spelled_numbers.specs.Spelling.{total, left_after, digits}
 use Rattle.spelled_numbers.specs.Bits.{bits_of}
 use Rattle.world_levels.specs.Spelling.{above_least, cell_part, part_number, spelled_world}
 use Rattle.world_levels.specs.Laws.{DifferInCell, EachWorldIsSpelled, FreeLevelsStay}
-use Rattle.free_levels.specs.Values.{is_in, AgreeOff, Ignores, IgnoresAll}
+use Rattle.free_levels.specs.Values.{is_in, Ignores, IgnoresAll}
 use Rattle.free_levels.proofs.StageLemmas.{never_true}
 use Rattle.free_levels.proofs.ValueLemmas.{ignores-all, or-by_left, or-by_right}
 use Rattle.keyed_levels.specs.declared.keyed.Keyed.{Keyed}
@@ -143,6 +143,14 @@ spell_keyed each stay k are w is s = record {
       ∙ s.lawful i less
       ∙ ap (λ v. comparison v (slice_get k.base.phrases (key_at k.keyed i).phrase)) s.spells;
 }
+
+-- each world is spelled in one way by some lawful values
+pub lawfully_spelled : EachWorldIsSpelled → FreeLevelsStay → EachWorldIsSpelledLawfully → (k : KeyedWorlds) → AreKeyed k → (w : World) → IsWorld k.base.spec w
+    → (free : ℕ → Bool) × Lawful k (spelled_world k.base.spec k.slots w free)
+unfolding values_for
+lawfully_spelled each stay lawfully k are w is =
+    let s = lawfully k are w is in
+    (λ level. is_key k.keyed level && s.values level, lawful_for k w (values_for k s.values w) (spell_keyed each stay k are w is s))
 
 record Found (keyed : List Keyed) (level : ℕ) : Type 0 where
   place : ℕ

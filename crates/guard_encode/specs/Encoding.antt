@@ -4,6 +4,7 @@ use Rattle.rsml_syntax.specs.declared.world.World.{World}
 use Rattle.bdd_core.specs.Diagram.{Diagram, IsRef, meaning}
 use Rattle.bdd_core.specs.Calls as arena
 use Rattle.spelled_numbers.specs.declared.slot.Slot.{Slot}
+use Rattle.world_levels.specs.Spelling.{spelled_world}
 use Rattle.rsml_meaning.specs.Worlds.{IsWorld}
 use Rattle.rsml_meaning.specs.Groups as meaning_of
 use Rattle.ground_groups.specs.declared.group.Member.{Member}
@@ -12,7 +13,7 @@ use Rattle.elaborate.specs.Machine.{GroundMachine}
 use Rattle.keyed_levels.specs.declared.keyed.Keyed.{Keyed}
 use Rattle.keyed_levels.specs.Keyed.{KeyedWorlds, AreKeyed}
 use Rattle.keyed_levels.specs.Keyed as keyed
-use Rattle.settled_worlds.specs.Settled.{AreExact, DependsOn, cell_levels}
+use Rattle.settled_worlds.specs.Settled.{AreExact}
 use Rattle.guard_encode.specs.Phrases.{AreActive, ArePhrases}
 
 -- A machine, the slots of the levels, the levels that stand for comparisons, and the diagrams.
@@ -39,12 +40,28 @@ pub record TellsExactly (e : Encoding) (truth : World → Bool) (r : ℕ) : Type
 abbrev pub is_at_most : KeyedWorlds → ℕ → ℤ → (ℕ → Bool) → Bool
 is_at_most k cell number values = int_le (slice_index_or (keyed.world_at k values).cells cell (pos 0)) number
 
--- r tells of the levels of a cell in which worlds this is true: with each test of these levels alone it is true together somewhere
--- exactly where this is true with the test at some lawful values
+-- r finds the worlds of which this is true: at lawful values by which a world is spelled it tells whether this is true of it, and at
+-- all others it is false where this is
+pub record FindsAt (d : Diagram) (k : KeyedWorlds) (truth : World → Bool) (r : ℕ) : Type 0 where
+  pub is_ref : IsRef d r
+  pub spelled : (w : World) (free : ℕ → Bool) → IsWorld k.base.spec w → keyed.Lawful k (spelled_world k.base.spec k.slots w free)
+      → meaning d r (spelled_world k.base.spec k.slots w free) ≡ truth (keyed.world_at k (spelled_world k.base.spec k.slots w free))
+  pub others : (values : ℕ → Bool) → keyed.Lawful k values → truth (keyed.world_at k values) ≡ false → meaning d r values ≡ false
+
+abbrev pub Finds : Encoding → (World → Bool) → ℕ → Type 0
+Finds e truth r = FindsAt e.diagram (worlds_of e) truth r
+
+-- r finds the worlds of which this is true, and it is false everywhere exactly where this is true of none
+pub record FindsExactly (e : Encoding) (truth : World → Bool) (r : ℕ) : Type 0 where
+  pub found : Finds e truth r
+  pub none : ((values : ℕ → Bool) → meaning e.diagram r values ≡ false) ↔ ((w : World) → IsWorld e.machine.base.spec w → truth w ≡ false)
+
+-- r tells of a cell in which worlds this is true: it is true somewhere where the cell has at most some number, exactly where this is
+-- true of some world in which it has
 pub record IsOfCell (e : Encoding) (cell : ℕ) (truth : World → Bool) (r : ℕ) : Type 0 where
   pub is_ref : IsRef e.diagram r
-  pub same : (test : (ℕ → Bool) → Bool) → DependsOn (cell_levels (worlds_of e) cell) test → ((values : ℕ → Bool) → (meaning e.diagram r values && test values) ≡ false)
-      ↔ ((values : ℕ → Bool) → keyed.Lawful (worlds_of e) values → (truth (keyed.world_at (worlds_of e) values) && test values) ≡ false)
+  pub same : (n : ℤ) → ((values : ℕ → Bool) → (meaning e.diagram r values && is_at_most (worlds_of e) cell n values) ≡ false)
+      ↔ ((w : World) → IsWorld e.machine.base.spec w → (truth w && int_le (slice_index_or w.cells cell (pos 0)) n) ≡ false)
 
 -- The machine and the levels are the same, and each earlier diagram is what it was.
 pub record Keeps (old new : Encoding) : Type 0 where

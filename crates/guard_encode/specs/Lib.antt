@@ -2,3 +2,4 @@ pub mod Phrases
 pub mod Encoding
 pub mod Marking
 pub mod Reading
+pub mod Spelling

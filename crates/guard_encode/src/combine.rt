@@ -4,7 +4,7 @@ ghost use Rattle.rsml_syntax.specs.declared.world.World.{World};
 ghost use Rattle.rsml_meaning.specs.Instances.{components};
 ghost use Rattle.rsml_meaning.specs.Cells.{cells};
 ghost use Rattle.bdd_core.specs.Diagram.{IsRef, meaning};
-ghost use Rattle.guard_encode.specs.Encoding.{Tells, Keeps};
+ghost use Rattle.guard_encode.specs.Encoding.{Finds, Keeps, Tells};
 
 use crate::encoder::Encoder;
 use bdd_core::Ref;
@@ -37,6 +37,8 @@ impl<'m, 'a> Encoder<'m, 'a> {
         ensures is_ref { IfOk result (IsRef self.new.diagram) }
         ensures answer { IfOk result (λ r. (one other : World → Bool) → Tells self.old one f → Tells self.old other g
             → Tells self.new (λ w. one w && other w) r) }
+        ensures found { IfOk result (λ r. (one other : World → Bool) → Finds self.old one f → Tells self.old other g
+            → Finds self.new (λ w. one w && other w) r) }
     {
         self.arena.and(f, g)
     }

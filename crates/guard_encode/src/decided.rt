@@ -4,7 +4,7 @@ ghost use Rattle.rsml_syntax.specs.declared.world.World.{World};
 ghost use Rattle.bdd_core.specs.Diagram.{IsRef};
 ghost use Rattle.keyed_levels.specs.Keyed.{AreKeyed};
 ghost use Rattle.settled_worlds.specs.Settled.{IsSettled};
-ghost use Rattle.guard_encode.specs.Encoding.{Keeps, Tells, TellsExactly, worlds_of};
+ghost use Rattle.guard_encode.specs.Encoding.{Finds, FindsExactly, Keeps, Tells, TellsExactly, worlds_of};
 
 use crate::encoder::Encoder;
 use bdd_core::Ref;
@@ -12,6 +12,7 @@ use keyed_levels::keyed_laws;
 use rsml_base::NoMemory;
 use settled_worlds::settle;
 use std::alloc::Global;
+use world_levels::world_laws;
 
 impl<'m, 'a> Encoder<'m, 'a> {
     /// `f` itself, or where it is true of no world the function that is false everywhere.
@@ -20,8 +21,10 @@ impl<'m, 'a> Encoder<'m, 'a> {
         ensures keeps { Keeps self.old self.new }
         ensures is_ref { IfOk result (IsRef self.new.diagram) }
         ensures answer { IfOk result (λ r. (truth : World → Bool) → Tells self.old truth f → TellsExactly self.new truth r) }
+        ensures found { IfOk result (λ r. (truth : World → Bool) → Finds self.old truth f → FindsExactly self.new truth r) }
     {
         keyed_laws();
+        world_laws();
         if self.is_exact(f) {
             return Ok(f);
         }
@@ -36,9 +39,11 @@ impl<'m, 'a> Encoder<'m, 'a> {
     /// Whether there is nothing to settle: no level stands for a comparison, or the function is false everywhere.
     fn is_exact(&self, f: Ref) -> bool
         requires { IsRef self.now.diagram f }
-        ensures { IsTrue result → (truth : World → Bool) → Tells self.now truth f → TellsExactly self.now truth f }
+        ensures told { IsTrue result → (truth : World → Bool) → Tells self.now truth f → TellsExactly self.now truth f }
+        ensures found { IsTrue result → (truth : World → Bool) → Finds self.now truth f → FindsExactly self.now truth f }
     {
         keyed_laws();
+        world_laws();
         self.levels.keys().is_empty() || self.arena.is_false(f)
     }
 

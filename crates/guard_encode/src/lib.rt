@@ -5,11 +5,13 @@ mod cases;
 mod combine;
 mod decided;
 mod encoder;
+mod fixing;
 mod groups;
 mod of_cell;
 mod phrase;
 mod phrases;
 mod reading;
+mod spelling;
 mod test;
 
 pub use encoder::Encoder;

@@ -7,7 +7,7 @@ ghost use Rattle.bdd_core.specs.Diagram.{IsRef, meaning};
 ghost use Rattle.bdd_core.specs.Calls.{Represents};
 ghost use Rattle.keyed_levels.specs.Keyed.{AreKeyed};
 ghost use Rattle.settled_worlds.specs.Settled.{cell_levels, IsProjected};
-ghost use Rattle.guard_encode.specs.Encoding.{IsOfCell, Keeps, Tells, is_at_most, worlds_of};
+ghost use Rattle.guard_encode.specs.Encoding.{Finds, IsOfCell, Keeps, is_at_most, worlds_of};
 
 use crate::encoder::Encoder;
 use bdd_core::Ref;
@@ -15,6 +15,7 @@ use keyed_levels::keyed_laws;
 use rsml_base::NoMemory;
 use settled_worlds::project;
 use std::alloc::Global;
+use world_levels::world_laws;
 
 impl<'m, 'a> Encoder<'m, 'a> {
     /// What `f` tells of one cell. Where its numbers are asked for one after another, comparisons of other cells are looked at once.
@@ -23,8 +24,10 @@ impl<'m, 'a> Encoder<'m, 'a> {
         requires cell { cell < length (cells self.old.machine.base.spec) }
         ensures keeps { Keeps self.old self.new }
         ensures is_ref { IfOk result (IsRef self.new.diagram) }
-        ensures answer { IfOk result (λ r. (truth : World → Bool) → Tells self.old truth f → IsOfCell self.new cell truth r) }
+        ensures answer { IfOk result (λ r. (truth : World → Bool) → Finds self.old truth f → IsOfCell self.new cell truth r) }
     {
+        keyed_laws();
+        world_laws();
         self.projected(alloc, f, cell)
     }
 
@@ -36,7 +39,6 @@ impl<'m, 'a> Encoder<'m, 'a> {
         ensures answer { IfOk result (λ may. (truth : World → Bool) → IsOfCell self.old cell truth r → (may ≡ false)
             ↔ ((w : World) → IsWorld self.old.machine.base.spec w → (truth w && int_le (slice_index_or w.cells cell (pos 0)) number) ≡ false)) }
     {
-        keyed_laws();
         let below = self.below(cell, number)?;
         let both = self.both(r, below)?;
         Ok(!self.is_false(both))
@@ -47,6 +49,7 @@ impl<'m, 'a> Encoder<'m, 'a> {
         requires f_ref { IsRef self.old.diagram f }
         requires cell { cell < length (cells self.old.machine.base.spec) }
         ensures keeps { Keeps self.old self.new }
+        ensures keyed { AreKeyed (worlds_of self.old) }
         ensures answer { IfOk result (IsProjected self.old.diagram self.new.diagram (worlds_of self.old) (cell_levels (worlds_of self.old) cell) f) }
     {
         project(
@@ -64,7 +67,6 @@ impl<'m, 'a> Encoder<'m, 'a> {
     fn below(&mut self, cell: u32, number: i64) -> Result<Ref, NoMemory>
         requires { cell < length (cells self.old.machine.base.spec) }
         ensures keeps { Keeps self.old self.new }
-        ensures keyed { AreKeyed (worlds_of self.old) }
         ensures answer { IfOk result (Represents self.new.diagram (is_at_most (worlds_of self.old) cell number)) }
     {
         world_sums::at_most(
@@ -77,7 +79,7 @@ impl<'m, 'a> Encoder<'m, 'a> {
     }
 
     /// Where two functions are true, at all values of the levels.
-    fn both(&mut self, f: Ref, g: Ref) -> Result<Ref, NoMemory>
+    pub(crate) fn both(&mut self, f: Ref, g: Ref) -> Result<Ref, NoMemory>
         requires f_ref { IsRef self.old.diagram f }
         requires g_ref { IsRef self.old.diagram g }
         ensures keeps { Keeps self.old self.new }

@@ -4,7 +4,7 @@ use Rattle.rsml_syntax.specs.declared.syntax.Spec.{Spec}
 use Rattle.rsml_meaning.specs.Cells.{cells}
 use Rattle.state_tree.proofs.Lists.{within_get}
 use Rattle.guard_encode.proofs.StepLemmas.{keeps_on}
-use Rattle.counterexample.specs.Telling.{Bounded}
+use Rattle.counterexample.specs.Finding.{Bounded}
 use Rattle.counterexample.proofs.Kept.{spec_of, ref_on}
 use Rattle.counterexample.proofs.BoundSteps.{number_in, bounded_by_ends, bounded_below, bounded_above, bounded_at_one, still_told, not_less}
 use Rattle.counterexample.proofs.cells.least_by_halving.Goals as goal

@@ -1,7 +1,7 @@
 use Rattle.std.specs.Int.{int_gap}
 use Rattle.bdd_core.specs.Diagram.{IsRef}
 use Rattle.guard_encode.specs.Encoding.{Keeps}
-use Rattle.counterexample.specs.Telling.{Bounded}
+use Rattle.counterexample.specs.Finding.{Bounded}
 use Rattle.counterexample.proofs.BoundSteps.{number_in, ToldOfCell}
 use Rattle.counterexample.proofs.cells.least_by_halving.Given as goal
 

@@ -7,7 +7,7 @@ use Rattle.rsml_syntax.specs.declared.world.World.{World}
 use Rattle.rsml_meaning.specs.Cells.{cells}
 use Rattle.elaborate.specs.Machine.{GroundMachine}
 use Rattle.guard_encode.proofs.StepLemmas.{keeps_on}
-use Rattle.counterexample.specs.Telling.{NarrowedLow}
+use Rattle.counterexample.specs.Finding.{NarrowedLow}
 use Rattle.counterexample.proofs.ListSteps.{narrowed_more, narrowed_all, least_part}
 use Rattle.counterexample.proofs.Parts.{many_cells}
 use Rattle.counterexample.proofs.cells.least_cells.Goals as goal

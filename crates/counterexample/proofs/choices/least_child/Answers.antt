@@ -4,7 +4,7 @@ use Rattle.rsml_syntax.specs.declared.world.World.{World}
 use Rattle.rsml_meaning.specs.Instances.{components}
 use Rattle.state_tree.proofs.Lists.{within_get}
 use Rattle.guard_encode.proofs.StepLemmas.{keeps_on}
-use Rattle.counterexample.specs.Telling.{TellsPassing}
+use Rattle.counterexample.specs.Finding.{FindsPassing}
 use Rattle.counterexample.proofs.Kept.{spec_of}
 use Rattle.counterexample.proofs.ChildSteps.{place_in, none_at, least_at, no_child_left}
 use Rattle.counterexample.proofs.choices.least_child.Goals as goal
@@ -16,7 +16,7 @@ returns-in-Some-clause-answer c =
     let d = c.with_child.new.encoder in
     let test : World → Bool = λ w. place_in c.args.component w == c.loop-place.place in
     least_at a b d c.args.component c.loop-place.place c.args.f c.in-Some.rest c.loop-place.invariant.keeps c.in_ok-rest.ensures.keeps c.loop-place.invariant.none
-    (subst (λ (found : Option ℕ). TellsPassing b d test c.args.f found) c.in-Some.is c.in_ok-rest.ensures.answer)
+    (subst (λ (found : Option ℕ). FindsPassing b d test c.args.f found) c.in-Some.is c.in_ok-rest.ensures.answer)
 
 pub loop-place-preserved : goal.loop-place-preserved
 loop-place-preserved c =
@@ -27,7 +27,7 @@ loop-place-preserved c =
     record {
       keeps = keeps_on a b d c.loop-place.invariant.keeps c.in_ok-rest.ensures.keeps;
       none = none_at a b d c.args.component c.loop-place.place c.args.f c.loop-place.invariant.keeps c.in_ok-rest.ensures.keeps c.loop-place.invariant.none
-          (subst (λ (found : Option ℕ). TellsPassing b d test c.args.f found) c.in_default.is c.in_ok-rest.ensures.answer);
+          (subst (λ (found : Option ℕ). FindsPassing b d test c.args.f found) c.in_default.is c.in_ok-rest.ensures.answer);
     }
 
 pub returns-clause-answer : goal.returns-clause-answer

@@ -5,7 +5,7 @@ use Rattle.std.proofs.lemmas.List.{length_push}
 use Rattle.rsml_syntax.specs.declared.syntax.Spec.{Spec}
 use Rattle.rsml_meaning.specs.Instances.{components}
 use Rattle.guard_encode.proofs.StepLemmas.{keeps_on}
-use Rattle.counterexample.specs.Telling.{NarrowedLow}
+use Rattle.counterexample.specs.Finding.{NarrowedLow}
 use Rattle.counterexample.proofs.Kept.{spec_of}
 use Rattle.counterexample.proofs.ListSteps.{narrowed_more, narrowed_all}
 use Rattle.counterexample.proofs.Parts.{many_choices}

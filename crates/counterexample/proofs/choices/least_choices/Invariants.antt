@@ -3,7 +3,7 @@ use Rattle.std.specs.Cmp.Lexicographic.{slice_cmp}
 use Rattle.std.specs.Ordering.{nat_cmp}
 use Rattle.bdd_core.specs.Diagram.{IsRef}
 use Rattle.guard_encode.specs.Encoding.{Keeps}
-use Rattle.counterexample.specs.Telling.{NarrowedLow}
+use Rattle.counterexample.specs.Finding.{NarrowedLow}
 use Rattle.counterexample.proofs.choices.least_choices.Given as goal
 
 -- the components so far have their least children

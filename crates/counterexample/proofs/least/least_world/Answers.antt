@@ -13,4 +13,4 @@ returns-clause-answer c = λ truth told.
     c.in_ok-cells.ensures.keeps c.in_ok-read.ensures.choices c.in_ok-read.ensures.cells c.in_ok-choices.ensures.answer c.in_ok-cells.ensures.answer
     c.in_ok-choices.ensures.keeps truth
     (told_on c.args.encoder.now a truth c.args.f c.in_ok-decided.ensures.keeps told)
-    (some_decided a truth c.in_ok-decided.decided c.is_false.result (c.in_ok-decided.ensures.answer truth told) c.is_false.ensures c.if-is_false.false)
+    (some_decided a truth c.in_ok-decided.decided c.is_false.result (c.in_ok-decided.ensures.answer truth told).none c.is_false.ensures c.if-is_false.false)

@@ -1,4 +1,4 @@
-use Rattle.std.proofs.Common.{◌≡◌, true, sym, ap, ◌∙◌, option_copied}
+use Rattle.std.proofs.Common.{true, sym, ap, ◌∙◌, option_copied}
 use Rattle.std.specs.Option.{unwrap_or}
 use Rattle.std.proofs.lemmas.Option.{unwrap_or-slice_get}
 use Rattle.counterexample.proofs.reading.is_read.Goals as goal

@@ -3,17 +3,13 @@ use Rattle.std.proofs.lemmas.Int.{to_z-of_z}
 use Rattle.std.proofs.lemmas.Result.{IfOk-weaker}
 use Rattle.bdd_core.specs.Calls.{Represents}
 use Rattle.world_sums.specs.Tells as exact
-use Rattle.keyed_levels.specs.Keyed.{AreKeyed}
-use Rattle.guard_encode.specs.Encoding.{Encoding, encoding_of, is_at_most, worlds_of}
+use Rattle.guard_encode.specs.Encoding.{Encoding, is_at_most, worlds_of}
 use Rattle.guard_encode.proofs.StepLemmas.{encoded_stay}
 use Rattle.guard_encode.proofs.CellLemmas.{below_told}
 use Rattle.guard_encode.proofs.encoder.Encoder.below.Goals as goal
 
 pub invariant_of-self : goal.invariant_of-self
 invariant_of-self c = encoded_stay _ _ _ c.at_most.new.arena _ c.at_most.ensures.keeps c.self.invariant
-
-pub returns-clause-keyed : goal.returns-clause-keyed
-returns-clause-keyed c = subst (λ (e : Encoding). AreKeyed (worlds_of e)) c.self.view_is c.self.invariant.stored.levels
 
 pub returns-clause-answer : goal.returns-clause-answer
 returns-clause-answer c =

@@ -2,7 +2,6 @@ use Rattle.std.proofs.Common.{◌≡◌, ℕ, Bool, true, false, not, ◌&&◌, 
 use Rattle.std.proofs.lemmas.Int.{to_z-of_z}
 use Rattle.bdd_core.specs.Diagram.{meaning}
 use Rattle.guard_encode.specs.Encoding.{is_at_most, worlds_of}
-use Rattle.guard_encode.proofs.CellLemmas.{asked}
 use Rattle.guard_encode.proofs.encoder.Encoder.may_be_at_most.Goals as goal
 
 not_false : (b : Bool) → b ≡ true → not b ≡ false
@@ -21,7 +20,7 @@ returns-clause-answer c = λ truth of.
     subst (λ n. (v : ℕ → Bool) → meaning c.below.new.self.diagram c.in_ok-below.below v ≡ is_at_most (worlds_of e) c.args.cell n v) (to_z-of_z w64 c.args.number fits) c.in_ok-below.ensures.answer.means in
     let same : (v : ℕ → Bool) → meaning c.both.new.self.diagram c.in_ok-both.both v ≡ (meaning e.diagram r v && is_at_most (worlds_of e) c.args.cell c.args.number v) =
     λ v. c.in_ok-both.ensures.answer.means v ∙ (λ i. c.below.ensures.keeps.diagram.meanings_stay r v c.requires.r_ref i && below v i) in
-    let question = asked c.keyed_laws.ensures.each c.keyed_laws.ensures.worlds e c.args.cell c.args.number truth r c.in_ok-below.ensures.keyed of in (
+    let question = of.same c.args.number in (
       λ no_world. question.0 (λ v. sym (same v) ∙ c.is_false.ensures.0 (was_true c.is_false.result no_world) v),
       λ never. not_false c.is_false.result (c.is_false.ensures.1 (λ v. same v ∙ question.1 never v)),
     )

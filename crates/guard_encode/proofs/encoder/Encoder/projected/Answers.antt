@@ -2,6 +2,7 @@ use Rattle.std.proofs.Common.{◌<◌, length, sym, subst, IfOk}
 use Rattle.std.proofs.lemmas.Result.{IfOk-weaker}
 use Rattle.rsml_meaning.specs.Cells.{cells}
 use Rattle.rsml_ground.specs.Truths.{Grounded}
+use Rattle.keyed_levels.specs.Keyed.{AreKeyed}
 use Rattle.settled_worlds.specs.Settled.{cell_levels, IsProjected}
 use Rattle.guard_encode.specs.Encoding.{Encoding, worlds_of}
 use Rattle.guard_encode.proofs.StepLemmas.{own_exact, settled_stay}
@@ -21,6 +22,9 @@ project-requires-clause-cell c =
 
 pub invariant_of-self : goal.invariant_of-self
 invariant_of-self c = settled_stay _ _ _ c.project.new.arena _ c.project.new.exact c.project.ensures.keeps c.project.ensures.exact c.self.invariant
+
+pub returns-clause-keyed : goal.returns-clause-keyed
+returns-clause-keyed c = subst (λ (e : Encoding). AreKeyed (worlds_of e)) c.self.view_is c.self.invariant.stored.levels
 
 pub returns-clause-answer : goal.returns-clause-answer
 returns-clause-answer c =

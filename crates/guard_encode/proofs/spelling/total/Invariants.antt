@@ -1,0 +1,6 @@
+use Rattle.std.proofs.Common.{◌≡◌, ◌+◌, drop}
+use Rattle.linear_bits.specs.Sums.{total_weight}
+use Rattle.guard_encode.proofs.spelling.total.Given as goal
+
+abbrev pub invariant-loop-bit : goal.invariant-loop-bit
+invariant-loop-bit l = l.total + total_weight (drop l.bit-index l.bits) ≡ total_weight l.bits
