@@ -3,3 +3,4 @@ pub mod FieldTexts
 pub mod ItemTexts
 pub mod RoundTexts
 pub mod SendTexts
+pub mod TakeLineTexts

@@ -1,5 +1,5 @@
 -- The lines of a round by the numbers of its events, transitions and cases of sends.
-use Rattle.std.specs.Prelude.{ℕ, List, [], ◌++◌, ℤ, flat_map, codes, slice_get, slice_index_or}
+use Rattle.std.specs.Prelude.{◌≡◌, ℕ, List, [], ◌++◌, ℤ, flat_map, codes, Some, slice_get, slice_index_or}
 use Rattle.std.specs.Option.{option_map_or}
 use Rattle.rsml_syntax.specs.declared.syntax.Spec.{Spec}
 use Rattle.rsml_meaning.specs.Words.{Instance, numbered_from}
@@ -17,6 +17,16 @@ spaced e = codes " " ++ instance_text e
 -- the line of the taken transition of this number, where there is one
 abbrev pub take_line : Spec → ℕ → Text
 take_line s k = option_map_or (λ t. text_line (codes "    take " ++ label t)) (slice_get (transitions s) k) []
+
+-- these are the lines of the first so many transitions, each at the place of its number
+abbrev pub AreTakeLines : Spec → List Text → Type 0
+AreTakeLines s lines = (k : ℕ) (line : Text) → slice_get lines k ≡ Some line → line ≡ take_line s k
+
+-- these texts and lines are those of a specification
+pub record AreTextsOf (s texts sent : Spec) (lines : List Text) : Type 0 where
+  pub texts_are : texts ≡ s
+  pub sent_are : sent ≡ s
+  pub lines_are : AreTakeLines s lines
 
 -- a number that is sent in the field at a place of the case of this number, where there is one
 abbrev pub number_at : Spec → ℕ → ℕ → ℤ → Text

@@ -4,6 +4,7 @@
 mod events;
 mod fields;
 mod sends;
+mod take_lines;
 mod takes;
 mod traces;
 

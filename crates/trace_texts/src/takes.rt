@@ -1,4 +1,4 @@
-ghost use Rattle.std.specs.Prelude.{◌≡◌, ℕ, List, Some, ◌++◌, codes, flat_map, slice_get};
+ghost use Rattle.std.specs.Prelude.{◌≡◌, ℕ, List, Some, ◌++◌, codes, slice_get};
 ghost use Rattle.rsml_meaning.specs.Texts.{label, text_line};
 ghost use Rattle.rsml_meaning.specs.Transitions.{TransitionInstance, transitions};
 ghost use Rattle.rsml_ground.specs.declared.phrases.GroundPhrase as ground;
@@ -25,7 +25,7 @@ fn put_line<W: Writer>(writer: &mut W, tree: &Tree<'_>, transition: &GroundTrans
 }
 
 /// Writes the line of the transition of a number. Nothing where there is none.
-fn put_take<W: Writer>(writer: &mut W, machine: &Machine<'_>, transition: u32)
+pub fn put_take<W: Writer>(writer: &mut W, machine: &Machine<'_>, transition: u32)
     ensures { Writes (W.state writer.old) (W.text writer.old) (take_line machine.now.base.spec transition)
         (W.state writer.new) (W.text writer.new) }
 {
@@ -33,16 +33,5 @@ fn put_take<W: Writer>(writer: &mut W, machine: &Machine<'_>, transition: u32)
     match machine.all_transitions().get(transition as usize) {
         Some(taken) => put_line(writer, machine.tree(), taken),
         None => {}
-    }
-}
-
-/// Writes the lines of the transitions of these numbers.
-pub fn put_takes<W: Writer>(writer: &mut W, machine: &Machine<'_>, taken: &[u32])
-    ensures { Writes (W.state writer.old) (W.text writer.old)
-        (flat_map (take_line machine.now.base.spec) taken.now)
-        (W.state writer.new) (W.text writer.new) }
-{
-    for transition in taken {
-        put_take(writer, machine, *transition);
     }
 }

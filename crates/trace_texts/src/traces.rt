@@ -11,7 +11,7 @@ ghost use Rattle.trace_texts.specs.Rounds.{IsRoundOf};
 
 use crate::events::{put_event_line, put_round_line};
 use crate::sends::put_sends;
-use crate::takes::put_takes;
+use crate::take_lines::TakeLines;
 use elaborate::Machine;
 use instance_texts::{SentTexts, Texts};
 use micro_step::{Events, Scratch};
@@ -26,13 +26,14 @@ pub struct Traces<'m, 'a> {
     machine: &'m Machine<'a>,
     texts: Texts<'a>,
     sent: SentTexts<'a>,
+    lines: TakeLines,
 }
 
 impl<'m, 'a> Model for Traces<'m, 'a> {
-    ghost use Rattle.std.specs.Prelude.{◌≡◌};
     ghost use Rattle.std.specs.Coded.{codes};
     ghost use Rattle.rsml_syntax.specs.contracts.syntax.Body as bodies;
     ghost use Rattle.elaborate.specs.Machine.{GroundMachine};
+    ghost use Rattle.trace_texts.specs.Lines.{AreTextsOf};
 
     ghost Value = { GroundMachine };
 
@@ -40,7 +41,7 @@ impl<'m, 'a> Model for Traces<'m, 'a> {
 
     ghost view = { λ t. t.machine.now };
 
-    ghost invariant = { λ t. (t.texts ≡ t.machine.now.base.spec) × (t.sent ≡ t.machine.now.base.spec) };
+    ghost invariant = { λ t. AreTextsOf t.machine.now.base.spec t.texts t.sent t.lines };
 }
 
 impl<'m, 'a> Traces<'m, 'a> {
@@ -55,10 +56,12 @@ impl<'m, 'a> Traces<'m, 'a> {
     {
         let texts = Texts::build(alloc, checked)?;
         let sent = SentTexts::build(alloc, checked)?;
+        let lines = TakeLines::new(alloc, machine)?;
         Ok(Traces {
             machine,
             texts,
             sent,
+            lines,
         })
     }
 
@@ -96,7 +99,7 @@ impl<'m, 'a> Traces<'m, 'a> {
     {
         let machine = self.machine;
         put_round_line(writer, &self.texts, number, present);
-        put_takes(writer, machine, scratch.taken());
+        self.lines.put_lines(writer, machine, scratch.taken());
         put_sends(writer, machine, &self.texts, &self.sent, scratch);
     }
 

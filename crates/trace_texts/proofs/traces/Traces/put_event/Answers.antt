@@ -7,4 +7,4 @@ use Rattle.trace_texts.proofs.traces.Traces.put_event.Goals as goal
 pub returns : goal.returns
 returns g c x at =
     c.put_event_line.ensures x
-    (ap (λ (s : Spec). slice_get (receives s) c.args.receive) (c.self.invariant.0 ∙ ap (λ (m : GroundMachine). m.base.spec) c.self.view_is) ∙ at)
+    (ap (λ (s : Spec). slice_get (receives s) c.args.receive) (c.self.invariant.texts_are ∙ ap (λ (m : GroundMachine). m.base.spec) c.self.view_is) ∙ at)

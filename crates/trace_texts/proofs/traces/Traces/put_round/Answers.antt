@@ -9,12 +9,12 @@ use Rattle.trace_texts.proofs.traces.Traces.put_round.Goals as goal
 
 pub put_round_line-requires : goal.put_round_line-requires
 put_round_line-requires g c =
-    subst (λ (s : Spec). AreEvents s c.args.present.now) (sym (c.self.invariant.0 ∙ ap (λ (m : GroundMachine). m.base.spec) c.self.view_is)) c.requires.events
+    subst (λ (s : Spec). AreEvents s c.args.present.now) (sym (c.self.invariant.texts_are ∙ ap (λ (m : GroundMachine). m.base.spec) c.self.view_is)) c.requires.events
 
 pub put_sends-requires-clause-made : goal.put_sends-requires-clause-made
 put_sends-requires-clause-made g c = subst (λ (m : GroundMachine). IsFor m c.args.scratch.now) (sym c.self.view_is) c.requires.made
 
 pub returns : goal.returns
 returns g c r is =
-    alike (round_is c.args.self.now _ _ c.args.number c.args.present.now c.args.scratch.now c.taken.result.now r c.self.view_is c.self.invariant.0 c.taken.ensures is)
-    (followed c.put_round_line.ensures (followed c.put_takes.ensures c.put_sends.ensures))
+    alike (round_is c.args.self.now _ _ c.args.number c.args.present.now c.args.scratch.now c.taken.result.now r c.self.view_is c.self.invariant.texts_are c.taken.ensures is)
+    (followed c.put_round_line.ensures (followed c.put_lines.ensures c.put_sends.ensures))

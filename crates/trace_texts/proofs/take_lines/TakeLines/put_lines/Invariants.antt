@@ -1,7 +1,7 @@
 use Rattle.std.proofs.Common.{flat_map, take}
 use Rattle.text_writer.specs.Writes.{Writes}
 use Rattle.trace_texts.specs.Lines.{take_line}
-use Rattle.trace_texts.proofs.takes.put_takes.Given as goal
+use Rattle.trace_texts.proofs.take_lines.TakeLines.put_lines.Given as goal
 
 abbrev pub invariant-loop-transition : goal.invariant-loop-transition
 invariant-loop-transition g l =
