@@ -1,0 +1,9 @@
+mod TransitionBounds
+mod SumLemmas
+mod RoundSeries
+mod RoundLemmas
+mod TurnLemmas
+mod EventLemmas
+mod MoveLemmas
+mod LineLemmas
+mod LoopLemmas
