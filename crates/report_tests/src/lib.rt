@@ -8,6 +8,8 @@ mod chains;
 #[cfg(test)]
 mod demo;
 #[cfg(test)]
+mod fixed;
+#[cfg(test)]
 mod functions;
 #[cfg(test)]
 mod nested;
