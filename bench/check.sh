@@ -11,6 +11,7 @@ cd "$(dirname "$0")/.."
 turns=${1:-3}
 work=$(mktemp -d)
 trap 'rm -rf "$work"' EXIT
+source bench/texts.sh
 
 # make NAME PROGRAM: a text, by an awk program.
 make() {
@@ -84,6 +85,14 @@ make lines 'put("specification A;event E0;"); inputs(64); put("receive I(X0)rais
 make findings 'put("specification A;event E0;event E1;range R 0..9;input X[64]:R=0;receive I[64](X[this])raise E0;receive J()raise E1;state A all{");
   for (b = 0; b < 64; b++) { put("state B" b " one{default C0;"); basic("C", 62); for (c = 0; c < 32; c++) for (e = 0; e < 2; e++) {
     put("move C" c "->C" (c * 7 + 1) % 62 " on E" e " when{X[" b + 1 "]<" c % 8 + 1 "|T;};stay C" c " on E" e " when{X[" b + 1 "]<" c % 8 + 1 "|T;};") } put("}") } put("}")'
+
+# A mode logic of 200 tables, and the same with guards that leave out a case.
+modes 200 > "$work/modes_200"; echo modes_200 >> "$work/names"
+modes 200 mistaken > "$work/modes_mistaken"; echo modes_mistaken >> "$work/names"
+# The one text of bench/rules.sh that keeps the rules and limits: a function of many cases in many comparisons. On the others `check` ends
+# with the fault line.
+make comparisons 'put("specification A; range R 0 .. 9; input X : R = 0; function G { "); for (i = 0; i < 31250; i++) put("X when always; ");
+  put("} "); for (m = 0; m < 300; m++) { put("macro M" m " { "); for (i = 0; i < 64; i++) put("function G = 1 | T; "); put("} ") } put("state A;")'
 
 [ -n "${PROGRAM:-}" ] || ./rsml format examples/lamp.rsml > /dev/null || exit 1
 program=${PROGRAM:-crates/rsml_main/out/rsml_main}
