@@ -1,5 +1,5 @@
 -- How many of the first items of a list pass a test.
-use Rattle.std.proofs.Common.{◌≡◌, ℕ, ◌+◌, ◌≤◌, Bool, true, false, not, cond, ◌&&◌, ◌||◌, ◌==◌, nat_lt, List, length, take, filter, Some, slice_get, sym, ap, ◌∙◌, arith}
+use Rattle.std.proofs.Common.{◌≡◌, ℕ, ◌+◌, ◌≤◌, Bool, true, false, not, cond, if◌then◌else◌, ◌||◌, ◌==◌, nat_lt, List, length, take, filter, Some, slice_get, sym, ap, ◌∙◌, arith}
 use Rattle.std.proofs.lemmas.Bool.Decides.{nat_tests}
 use Rattle.std.proofs.lemmas.List.{take_all}
 use Rattle.std.proofs.lemmas.List.Filters.{length-filter_more}
@@ -17,7 +17,7 @@ above_zero : (b : Bool) (k : ℕ) → (nat_lt 0 k || b) ≡ nat_lt 0 (k + cond b
 above_zero true k = grind (arith, nat_tests)
 above_zero false k = grind (arith, nat_tests)
 
-above_one : (b : Bool) (k : ℕ) → (nat_lt 1 k || (nat_lt 0 k && b)) ≡ nat_lt 1 (k + cond b 1 0)
+above_one : (b : Bool) (k : ℕ) → (if b then nat_lt 0 k else nat_lt 1 k) ≡ nat_lt 1 (k + cond b 1 0)
 above_one true k = grind (arith, nat_tests)
 above_one false k = grind (arith, nat_tests)
 
@@ -25,9 +25,9 @@ above_one false k = grind (arith, nat_tests)
 pub some_more : {A : Type 0} (p : A → Bool) (xs : List A) (n : ℕ) (x : A) → slice_get xs n ≡ Some x → (nat_lt 0 (passing p xs n) || p x) ≡ nat_lt 0 (passing p xs (n + 1))
 some_more p xs n x at = above_zero (p x) (passing p xs n) ∙ ap (λ k. nat_lt 0 k) (sym (one_more p xs n x at))
 
--- two or more pass where two did before, or one did and the next does
+-- two or more pass where one did before, if the next does, and else where two did
 pub two_more : {A : Type 0} (p : A → Bool) (xs : List A) (n : ℕ) (x : A) → slice_get xs n ≡ Some x
-    → (nat_lt 1 (passing p xs n) || (nat_lt 0 (passing p xs n) && p x)) ≡ nat_lt 1 (passing p xs (n + 1))
+    → (if p x then nat_lt 0 (passing p xs n) else nat_lt 1 (passing p xs n)) ≡ nat_lt 1 (passing p xs (n + 1))
 two_more p xs n x at = above_one (p x) (passing p xs n) ∙ ap (λ k. nat_lt 1 k) (sym (one_more p xs n x at))
 
 -- past the last item all have been counted

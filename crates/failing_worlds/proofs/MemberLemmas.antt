@@ -1,5 +1,5 @@
 -- A member more of a group.
-use Rattle.std.proofs.Common.{◌≡◌, ℕ, ◌+◌, ◌≤◌, Bool, false, ◌&&◌, ◌||◌, nat_lt, length, Some, slice_get, sym, subst, arith}
+use Rattle.std.proofs.Common.{◌≡◌, ℕ, ◌+◌, ◌≤◌, Bool, false, if◌then◌else◌, ◌||◌, nat_lt, length, Some, slice_get, sym, subst, arith}
 use Rattle.rsml_syntax.specs.declared.syntax.Spec.{Spec}
 use Rattle.rsml_syntax.specs.declared.world.World.{World}
 use Rattle.rsml_meaning.specs.Truth.{view}
@@ -27,39 +27,30 @@ TellsMember e x r = (m : meaning.Member) → MemberIs e.machine.base.spec m x �
 abbrev pub TellsOr : Encoding → Encoding → ℕ → ℕ → ℕ → Type 0
 TellsOr old new f h r = (one other : World → Bool) → Tells old one f → Tells old other h → Tells new (λ w. one w || other w) r
 
-abbrev pub TellsAnd : Encoding → Encoding → ℕ → ℕ → ℕ → Type 0
-TellsAnd old new f h r = (one other : World → Bool) → Tells old one f → Tells old other h → Tells new (λ w. one w && other w) r
+-- r tells the second of three truths where the first is true, and else the third
+abbrev pub TellsIte : Encoding → Encoding → ℕ → ℕ → ℕ → ℕ → Type 0
+TellsIte old new f g h r = (condition one other : World → Bool) → Tells old condition f → Tells old one g → Tells old other h → Tells new (λ w. if condition w then one w else other w) r
 
 -- where the member is enabled, by the machine as it was before
 enabled_told : (old new : Encoding) (x : Member) (r : ℕ) → Keeps old new → TellsMember new x r → (m : meaning.Member) → MemberIs old.machine.base.spec m x → Tells new (λ w. enabled (view old.machine.base.spec w) m) r
 enabled_told old new x r keeps told =
     subst (λ (k : GroundMachine). (m : meaning.Member) → MemberIs k.base.spec m x → Tells new (λ w. enabled (view k.base.spec w) m) r) keeps.machine told
 
--- where one of the members before is enabled, and the new one
-pub both_told : (old seen joined : Encoding) (g : Group) (n : ℕ) (x : Member) (before : Count) (this both : ℕ) → Keeps old seen → (is : IsMemberAt old.machine.base.spec g n x) → IsPart old g n before
-    → TellsMember seen x this → TellsAnd seen joined before.some this both → Tells joined (λ w. more_than 0 n old.machine.base.spec g w && enabled (view old.machine.base.spec w) is.0) both
-both_told old seen joined g n x before this both keeps is part told made =
-    let s = old.machine.base.spec in
-    made (more_than 0 n s g) (λ w. enabled (view s w) is.0) (told_on old seen (more_than 0 n s g) before.some keeps part.some_is) (enabled_told old seen x this keeps told is.0 is.2)
-
--- The encoder `old` has come to `seen`, where the new member is enabled; to `joined`, where it and one before are; and to `widened` and
--- `new`, with the counts.
-pub part_more : (old seen joined widened new : Encoding) (g : Group) (n : ℕ) (x : Member) (before after : Count) (this both : ℕ)
-    → Keeps old seen → Keeps seen joined → Keeps joined widened → Keeps widened new → TellsMember seen x this → TellsAnd seen joined before.some this both
-    → TellsOr joined widened before.two both after.two → TellsOr widened new before.some this after.some → IsMemberAt old.machine.base.spec g n x → IsPart old g n before → IsPart new g (n + 1) after
-part_more old seen joined widened new g n x before after this both by_seen by_and by_two by_some told made_both made_two made_some is part =
+-- The encoder `old` has come to `seen`, where the new member is enabled, and to `widened` and `new`, with the counts.
+pub part_more : (old seen widened new : Encoding) (g : Group) (n : ℕ) (x : Member) (before after : Count) (this : ℕ)
+    → Keeps old seen → Keeps seen widened → Keeps widened new → TellsMember seen x this → TellsIte seen widened this before.some before.two after.two
+    → TellsOr widened new before.some this after.some → IsMemberAt old.machine.base.spec g n x → IsPart old g n before → IsPart new g (n + 1) after
+part_more old seen widened new g n x before after this by_seen by_two by_some told made_two made_some is part =
     let s = old.machine.base.spec in
     let is_on : World → Bool = λ w. enabled (view s w) is.0 in
-    let onwards = keeps_on seen joined widened by_and by_two in
-    let all = keeps_on old widened new (keeps_on old seen widened by_seen onwards) by_some in
+    let all = keeps_on old widened new (keeps_on old seen widened by_seen by_two) by_some in
     let this_is = enabled_told old seen x this by_seen told is.0 is.2 in
     let some_is = told_on old seen (more_than 0 n s g) before.some by_seen part.some_is in
-    let two_is = told_on seen joined (more_than 1 n s g) before.two by_and (told_on old seen (more_than 1 n s g) before.two by_seen part.two_is) in
-    let both_is = both_told old seen joined g n x before this both by_seen is part told made_both in
+    let two_is = told_on old seen (more_than 1 n s g) before.two by_seen part.two_is in
     let some_new : Tells new (λ w. more_than 0 n s g w || is_on w) after.some =
-    made_some (more_than 0 n s g) is_on (told_on seen widened (more_than 0 n s g) before.some onwards some_is) (told_on seen widened is_on this onwards this_is) in
-    let two_new : Tells new (λ w. more_than 1 n s g w || (more_than 0 n s g w && is_on w)) after.two =
-    told_on widened new (λ w. more_than 1 n s g w || (more_than 0 n s g w && is_on w)) after.two by_some (made_two (more_than 1 n s g) (λ w. more_than 0 n s g w && is_on w) two_is both_is) in
+    made_some (more_than 0 n s g) is_on (told_on seen widened (more_than 0 n s g) before.some by_two some_is) (told_on seen widened is_on this by_two this_is) in
+    let two_new : Tells new (λ w. if is_on w then more_than 0 n s g w else more_than 1 n s g w) after.two =
+    told_on widened new (λ w. if is_on w then more_than 0 n s g w else more_than 1 n s g w) after.two by_some (made_two is_on (more_than 0 n s g) (more_than 1 n s g) this_is some_is two_is) in
     record {
       some_is = subst (λ (k : GroundMachine). Tells new (more_than 0 (n + 1) k.base.spec g) after.some) (sym all.machine)
           (subst (λ (truth : World → Bool). Tells new truth after.some) (λ i w. some_more (enabled (view s w)) (members s g) n is.0 is.1 i) some_new);

@@ -94,8 +94,7 @@ fn with_member(
         → IsPart encoder.old g n before.now → IsPart encoder.new g (n + 1) c) }
 {
     let enabled = encoder.enabled(member)?;
-    let both = encoder.and(before.some, enabled)?;
-    let two = encoder.or(before.two, both)?;
+    let two = encoder.ite(enabled, before.some, before.two)?;
     let some = encoder.or(before.some, enabled)?;
     Ok(Count { some, two })
 }

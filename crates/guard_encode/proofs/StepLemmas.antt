@@ -1,5 +1,5 @@
 -- An encoder whose arena has grown, and what its calls tell.
-use Rattle.std.proofs.Common.{◌≡◌, ℕ, ◌+◌, ◌<◌, Bool, ◌&&◌, ◌||◌, not, List, length, take, get_or, Option, sym, ap, ◌∙◌, subst}
+use Rattle.std.proofs.Common.{◌≡◌, ℕ, ◌+◌, ◌<◌, Bool, ◌&&◌, ◌||◌, not, if◌then◌else◌, List, length, take, get_or, Option, sym, ap, ◌∙◌, subst}
 use Rattle.std.specs.List.{list_any}
 use Rattle.std.proofs.lemmas.List.Folds.{list_any_more}
 use Rattle.rsml_syntax.specs.declared.world.World.{World}
@@ -76,6 +76,15 @@ pub or_tells : (m : GroundMachine) (k : KeyedWorlds) (old new : Diagram) (f g r 
 or_tells m k old new f g r one other h a b = record {
   is_ref = h.is_ref;
   means = λ v lawful. h.means v ∙ (λ i. a.means v lawful i || b.means v lawful i);
+}
+
+pub ite_tells : (m : GroundMachine) (k : KeyedWorlds) (old new : Diagram) (f g h r : ℕ) (condition one other : World → Bool)
+    → Represents new (λ v. if meaning old f v then meaning old g v else meaning old h v) r
+    → Tells (encoding_of m k old) condition f → Tells (encoding_of m k old) one g → Tells (encoding_of m k old) other h
+    → Tells (encoding_of m k new) (λ w. if condition w then one w else other w) r
+ite_tells m k old new f g h r condition one other made a b c = record {
+  is_ref = made.is_ref;
+  means = λ v lawful. made.means v ∙ (λ i. if a.means v lawful i then b.means v lawful i else c.means v lawful i);
 }
 
 -- an exact diagram

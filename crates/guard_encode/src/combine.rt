@@ -1,5 +1,5 @@
 //! Functions of functions.
-ghost use Rattle.std.specs.Prelude.{◌≡◌, ◌<◌, ◌==◌, ◌&&◌, ◌||◌, ◌↔◌, ℕ, Bool, not, false, IsTrue, IfOk, length, slice_index_or, int_le, pos};
+ghost use Rattle.std.specs.Prelude.{◌≡◌, ◌<◌, ◌==◌, ◌&&◌, ◌||◌, ◌↔◌, ℕ, Bool, not, false, if◌then◌else◌, IsTrue, IfOk, length, slice_index_or, int_le, pos};
 ghost use Rattle.rsml_syntax.specs.declared.world.World.{World};
 ghost use Rattle.rsml_meaning.specs.Instances.{components};
 ghost use Rattle.rsml_meaning.specs.Cells.{cells};
@@ -53,6 +53,19 @@ impl<'m, 'a> Encoder<'m, 'a> {
             → Tells self.new (λ w. one w || other w) r) }
     {
         self.arena.or(f, g)
+    }
+
+    /// True in the worlds in which `g` is where `f` is true, and in those in which `h` is where `f` is not.
+    pub fn ite(&mut self, f: Ref, g: Ref, h: Ref) -> Result<Ref, NoMemory>
+        requires f_ref { IsRef self.old.diagram f }
+        requires g_ref { IsRef self.old.diagram g }
+        requires h_ref { IsRef self.old.diagram h }
+        ensures keeps { Keeps self.old self.new }
+        ensures is_ref { IfOk result (IsRef self.new.diagram) }
+        ensures answer { IfOk result (λ r. (condition one other : World → Bool) → Tells self.old condition f → Tells self.old one g
+            → Tells self.old other h → Tells self.new (λ w. if condition w then one w else other w) r) }
+    {
+        self.arena.ite(f, g, h)
     }
 
     /// Whether this is the function that is false everywhere.
