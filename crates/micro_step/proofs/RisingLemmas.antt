@@ -1,13 +1,14 @@
 -- Rising numbers: one put in, and when two lists of them are one.
-use Rattle.std.proofs.Common.{◌≡◌, ℕ, zero, suc, ◌+◌, ◌<◌, ◌≤◌, ◌==◌, ◌||◌, Bool, true, false, List, [], ◌∷◌, length, get_or, Ok, Err, ⊎_elim, inl, inr, ◌⊎◌, refl, sym, ap, ◌∙◌, subst, true≢false, arith}
+use Rattle.std.proofs.Common.{◌≡◌, ℕ, zero, suc, ◌+◌, ◌-◌, ◌<◌, ◌≤◌, ◌==◌, ◌||◌, Bool, true, false, List, [], ◌∷◌, length, get_or, slice_get, Some, Result, Ok, Err, IfErr, ⊎_elim, inl, inr, ◌⊎◌, refl, sym, ap, ◌∙◌, subst, true≢false, arith}
 use Rattle.std.specs.List.{insert}
 use Rattle.std.proofs.lemmas.Bool.{eqb-true, ne_eqb, cases_eq, cases_lt}
 use Rattle.std.specs.Cmp.{nat_eq_equiv}
+use Rattle.std.proofs.lemmas.Option.{get_or_from_slice_get, slice_get_within}
 use Rattle.std.specs.List.Sorted.{IsBinarySearchResult}
 use Rattle.std.specs.Ordering.{nat_cmp}
 use Rattle.std.proofs.lemmas.List.Sorted.{searched}
 use Rattle.rsml_meaning.specs.Words.{Each}
-use Rattle.micro_step.specs.Rising.{AreRising, among, AreKept}
+use Rattle.micro_step.specs.Rising.{AreRising, among, AreKept, IsPlaceFor}
 
 -- Tests.
 
@@ -73,8 +74,9 @@ among_at (x ∷ xs) zero y l e = ap (λ (b : Bool). b || among xs y) (subst (λ 
 among_at (x ∷ xs) (suc i) y l e = ap (λ (b : Bool). x == y || b) (among_at xs i y (omega (arith, l)) e) ∙ or_swap (x == y) true
 
 -- a number that is there may be put in again
-pub among_again : (xs : List ℕ) (i y q : ℕ) → i < length xs → get_or xs i 0 ≡ y → among xs q ≡ (among xs q || y == q)
-among_again xs i y q l e = sym (or_again (among xs q) (y == q) (λ h. subst (λ z. among xs z ≡ true) (same_number y q h) (among_at xs i y l e)))
+pub among_there : (xs : List ℕ) (i y q : ℕ) → slice_get xs i ≡ Some y → among xs q ≡ (among xs q || y == q)
+among_there xs i y q at = sym (or_again (among xs q) (y == q) (λ h. subst (λ z. among xs z ≡ true) (same_number y q h)
+    (among_at xs i y (slice_get_within xs i y at) (get_or_from_slice_get xs i y 0 at))))
 
 -- numbers that rise do so in order of their places
 pub in_places : (xs : List ℕ) → AreRising xs → (i j : ℕ) → i ≤ j → j < length xs → get_or xs i 0 ≤ get_or xs j 0
@@ -162,19 +164,28 @@ same_rising (x ∷ xs) (y ∷ ys) r t h =
 
 -- Where a number stands, or is to stand.
 
--- all before the place are below the number, and all from it on above it
-pub record IsPlaceFor (xs : List ℕ) (i y : ℕ) : Type 0 where
-  pub within : i ≤ length xs
-  pub low : (k : ℕ) → k < i → get_or xs k 0 < y
-  pub high : (k : ℕ) → i ≤ k → k < length xs → y < get_or xs k 0
-
-pub place_for : (xs ys : List ℕ) (y i : ℕ) → ys ≡ xs → AreRising xs → IsBinarySearchResult (λ z. nat_cmp z y) ys (Err i) → IsPlaceFor xs i y
-place_for xs ys y i e r h =
-    let f = searched xs y (Err i) (subst (λ (zs : List ℕ). IsBinarySearchResult (λ z. nat_cmp z y) zs (Err i)) e h) (in_places xs r) in
+place_for : (xs : List ℕ) (y i : ℕ) → AreRising xs → IsBinarySearchResult (λ z. nat_cmp z y) xs (Err i) → IsPlaceFor xs i y
+place_for xs y i r h =
+    let f = searched xs y (Err i) h (in_places xs r) in
     record { within = f.0; low = f.1; high = f.2 }
 
-pub place_of_one : (xs ys : List ℕ) (y i : ℕ) → ys ≡ xs → AreRising xs → IsBinarySearchResult (λ z. nat_cmp z y) ys (Ok i) → (i < length xs) × (get_or xs i 0 ≡ y)
-place_of_one xs ys y i e r h = searched xs y (Ok i) (subst (λ (zs : List ℕ). IsBinarySearchResult (λ z. nat_cmp z y) zs (Ok i)) e h) (in_places xs r)
+-- what a search tells
+pub searched_place : (xs : List ℕ) (y : ℕ) (r : Result ℕ ℕ) → AreRising xs → IsBinarySearchResult (λ z. nat_cmp z y) xs r → IfErr r (λ i. IsPlaceFor xs i y)
+searched_place xs y (Ok i) r h = tt
+searched_place xs y (Err i) r h = place_for xs y i r h
+
+-- behind the last of them, where that is below the number
+pub past_last : (xs : List ℕ) (y last : ℕ) → AreRising xs → slice_get xs (length xs - 1) ≡ Some last → last < y → IsPlaceFor xs (length xs) y
+past_last xs y last r at l = record {
+  within = omega arith;
+  low = λ k m.
+      let some : length xs - 1 < length xs = omega (arith, m) in
+      let below : k ≤ length xs - 1 = omega (arith, m) in
+      let p = in_places xs r k (length xs - 1) below some in
+      let is : get_or xs (length xs - 1) 0 ≡ last = get_or_from_slice_get xs (length xs - 1) last 0 at in
+      omega (arith, p, is, l);
+  high = λ k m n. absurd (omega (arith, m, n));
+}
 
 pub room_at : (xs : List ℕ) (i y bound room : ℕ) → AreKept xs bound room → y < bound → IsPlaceFor xs i y → length xs < room
 room_at xs i y bound room kept below p = room_for xs i y bound room kept below p.within p.low p.high

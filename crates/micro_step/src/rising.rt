@@ -1,6 +1,6 @@
-ghost use Rattle.std.specs.Prelude.{◌≡◌, ◌<◌, ◌==◌, ◌||◌, ℕ, [], IfOk};
+ghost use Rattle.std.specs.Prelude.{◌≡◌, ◌<◌, ◌==◌, ◌||◌, ℕ, [], IfErr, IfOk, Some, slice_get};
 ghost use Rattle.rsml_meaning.specs.Words.{Each};
-ghost use Rattle.micro_step.specs.Rising.{AreRising, among};
+ghost use Rattle.micro_step.specs.Rising.{AreRising, IsPlaceFor, among};
 
 use rsml_syntax::NoMemory;
 use std::alloc::Global;
@@ -22,6 +22,18 @@ impl Model for Rising {
     ghost view = { λ r. record { below = r.bound; items = r.items.items } };
 
     ghost invariant = { λ r. AreKept r.items.items r.bound (vec_capacity r.items) };
+}
+
+/// The place of a number among rising ones, or else the one where it is to stand. Behind the last it is found at once.
+fn place_of(items: &[u32], number: u32) -> Result<usize, usize>
+    requires { AreRising items.now }
+    ensures there { IfOk result (λ place. slice_get items.now place ≡ Some number) }
+    ensures new { IfErr result (λ place. IsPlaceFor items.now place number) }
+{
+    match items.last() {
+        Some(last) if *last < number => Err(items.len()),
+        _ => items.binary_search(&number),
+    }
 }
 
 impl Rising {
@@ -48,7 +60,7 @@ impl Rising {
         ensures rising { AreRising self.new.items }
     {
         let _ = &self.bound;
-        match self.items.as_slice().binary_search(&number) {
+        match place_of(self.items.as_slice(), number) {
             Ok(_) => {}
             Err(place) => self.items.insert(place, number).unwrap(),
         }
