@@ -118,7 +118,8 @@ impl<'m, 'a> Running<'m, 'a> {
         micro(machine, &mut self.scratch, &mut self.world, events);
         self.traces
             .put_round(writer, number, &present, &self.scratch);
-        events.next(0).is_some()
+        let count = machine.events() as usize;
+        events.next_below(0, count).is_some()
     }
 
     /// Does the step on an external event, the one of a set: rounds until no event is left, each of which is written. There are no

@@ -1,4 +1,5 @@
-ghost use Rattle.std.specs.Prelude.{◌≡◌, Some, flat_map, slice_get};
+ghost use Rattle.std.specs.Prelude.{◌≡◌, ◌≤◌, Some, flat_map, length, slice_get};
+ghost use Rattle.rsml_meaning.specs.Instances.{events};
 ghost use Rattle.rsml_meaning.specs.Interfaces.{ReceiveInstance, receives};
 ghost use Rattle.rsml_meaning.specs.Trace.{event_line, round_line};
 ghost use Rattle.text_writer.specs.Writes.{Writes};
@@ -22,28 +23,38 @@ pub fn put_event_line<W: Writer>(writer: &mut W, texts: &Texts<'_>, number: u64,
     put_line_end(writer);
 }
 
-/// Writes the events of a set, each behind a space.
-fn put_events<W: Writer>(writer: &mut W, texts: &Texts<'_>, present: &Events)
-    requires { AreEvents texts.now present.now }
+/// Writes the events of a set, each behind a space. There are `count` events.
+fn put_events<W: Writer>(writer: &mut W, texts: &Texts<'_>, count: u32, present: &Events)
+    requires count { count ≡ length (events texts.now) }
+    requires few { count ≤ 1024 }
+    requires present { AreEvents texts.now present.now }
     ensures { Writes (W.state writer.old) (W.text writer.old) (flat_map spaced (events_in texts.now present.now))
         (W.state writer.new) (W.text writer.new) }
 {
     let mut from = 0;
-    while let Some(event) = present.next(from) {
+    while let Some(event) = present.next_below(from, count as usize) {
         writer.put(b" ");
         texts.put_event(writer, event as u32);
         from = event + 1;
     }
 }
 
-/// Writes the line of a round: its number, and the present events.
-pub fn put_round_line<W: Writer>(writer: &mut W, texts: &Texts<'_>, number: u32, present: &Events)
-    requires { AreEvents texts.now present.now }
+/// Writes the line of a round: its number, and the present events. There are `count` events.
+pub fn put_round_line<W: Writer>(
+    writer: &mut W,
+    texts: &Texts<'_>,
+    count: u32,
+    number: u32,
+    present: &Events,
+)
+    requires count { count ≡ length (events texts.now) }
+    requires few { count ≤ 1024 }
+    requires present { AreEvents texts.now present.now }
     ensures { Writes (W.state writer.old) (W.text writer.old) (round_line number (events_in texts.now present.now))
         (W.state writer.new) (W.text writer.new) }
 {
     writer.put(b"  round ");
     put_number(writer, u64::from(number));
-    put_events(writer, texts, present);
+    put_events(writer, texts, count, present);
     put_line_end(writer);
 }

@@ -98,7 +98,7 @@ impl<'m, 'a> Traces<'m, 'a> {
             (W.state writer.new) (W.text writer.new) }
     {
         let machine = self.machine;
-        put_round_line(writer, &self.texts, number, present);
+        put_round_line(writer, &self.texts, machine.events(), number, present);
         self.lines.put_lines(writer, machine, scratch.taken());
         put_sends(writer, machine, &self.texts, &self.sent, scratch);
     }

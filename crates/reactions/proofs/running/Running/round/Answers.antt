@@ -1,4 +1,4 @@
-use Rattle.std.proofs.Common.{◌≡◌, ◌≢◌, ℕ, suc, true, false, [], is_some, sym, ap, subst}
+use Rattle.std.proofs.Common.{◌≡◌, ◌≢◌, ℕ, suc, true, false, [], is_some, sym, ap, subst, arith}
 use Rattle.rsml_meaning.specs.Words.{Each, Instance}
 use Rattle.rsml_meaning.specs.Certified.{Certified}
 use Rattle.rsml_meaning.specs.Chains.{Ends}
@@ -8,6 +8,8 @@ use Rattle.rsml_meaning.specs.Trace.{round_text}
 use Rattle.elaborate.specs.Machine.{GroundMachine}
 use Rattle.micro_step.specs.Micros.{AreEvents, events_in}
 use Rattle.micro_step.specs.Numbers.{IsFor}
+use Rattle.micro_step.specs.Sets.{has}
+use Rattle.micro_step.proofs.PlaceLemmas.{none_left}
 use Rattle.text_writer.specs.Writes.{Writes}
 use Rattle.trace_texts.specs.Rounds.{IsRoundOf}
 use Rattle.reactions.specs.Stepping.{InWorld, RoundIsWritten}
@@ -48,15 +50,17 @@ returns-clause-longer g c =
 
 pub returns-clause-some : goal.returns-clause-some
 returns-clause-some g c = λ q.
-    let same : is_some c.next.result ≡ true = let told = c.is_some.ensures in cc in
+    let same : is_some c.next_below.result ≡ true = let told = c.is_some.ensures in cc in
     subst (λ (v : InWorld). events_in v.machine.base.spec c.micro.new.events ≢ []) c.self.view_is
-    ((left_of c.self.inside.machine.now.base.spec c.micro.new.events c.next.result c.micro.ensures.events c.next.ensures.some c.next.ensures.none).0 same)
+    ((left_of c.self.inside.machine.now.base.spec c.micro.new.events c.next_below.result c.micro.ensures.events c.next_below.ensures.some
+    (λ e. none_left (has c.micro.new.events) c.events-count.result 0 (λ k h. let b = c.micro.ensures.events k h in omega (arith, b, c.events-count.ensures.count)) (c.next_below.ensures.none e))).0 same)
 
 pub returns-clause-none : goal.returns-clause-none
 returns-clause-none g c = λ q.
-    let same : is_some c.next.result ≡ false = let told = c.is_some.ensures in cc in
+    let same : is_some c.next_below.result ≡ false = let told = c.is_some.ensures in cc in
     subst (λ (v : InWorld). events_in v.machine.base.spec c.micro.new.events ≡ []) c.self.view_is
-    ((left_of c.self.inside.machine.now.base.spec c.micro.new.events c.next.result c.micro.ensures.events c.next.ensures.some c.next.ensures.none).1 same)
+    ((left_of c.self.inside.machine.now.base.spec c.micro.new.events c.next_below.result c.micro.ensures.events c.next_below.ensures.some
+    (λ e. none_left (has c.micro.new.events) c.events-count.result 0 (λ k h. let b = c.micro.ensures.events k h in omega (arith, b, c.events-count.ensures.count)) (c.next_below.ensures.none e))).1 same)
 
 pub returns-clause-events : goal.returns-clause-events
 returns-clause-events g c = subst (λ (v : InWorld). AreEvents v.machine.base.spec c.micro.new.events) c.self.view_is c.micro.ensures.events

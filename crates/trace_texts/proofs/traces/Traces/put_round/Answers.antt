@@ -1,5 +1,6 @@
-use Rattle.std.proofs.Common.{sym, ap, ◌∙◌, subst}
+use Rattle.std.proofs.Common.{◌≡◌, length, sym, ap, ◌∙◌, subst}
 use Rattle.rsml_syntax.specs.declared.syntax.Spec.{Spec}
+use Rattle.rsml_meaning.specs.Instances.{events}
 use Rattle.elaborate.specs.Machine.{GroundMachine}
 use Rattle.micro_step.specs.Micros.{AreEvents}
 use Rattle.micro_step.specs.Numbers.{IsFor}
@@ -7,8 +8,14 @@ use Rattle.text_writer.proofs.WritingLemmas.{followed, alike}
 use Rattle.trace_texts.proofs.RoundTexts.{round_is}
 use Rattle.trace_texts.proofs.traces.Traces.put_round.Goals as goal
 
-pub put_round_line-requires : goal.put_round_line-requires
-put_round_line-requires g c =
+pub put_round_line-requires-clause-count : goal.put_round_line-requires-clause-count
+put_round_line-requires-clause-count g c = subst (λ (s : Spec). c.events.result ≡ length (events s)) (sym c.self.invariant.texts_are) c.events.ensures.count
+
+pub put_round_line-requires-clause-few : goal.put_round_line-requires-clause-few
+put_round_line-requires-clause-few g c = c.events.ensures.few
+
+pub put_round_line-requires-clause-present : goal.put_round_line-requires-clause-present
+put_round_line-requires-clause-present g c =
     subst (λ (s : Spec). AreEvents s c.args.present.now) (sym (c.self.invariant.texts_are ∙ ap (λ (m : GroundMachine). m.base.spec) c.self.view_is)) c.requires.events
 
 pub put_sends-requires-clause-made : goal.put_sends-requires-clause-made
