@@ -4,7 +4,7 @@
 #include <stdio.h>
 #include <time.h>
 
-enum { SIDE = 11, LEVELS = 128, VARIABLES = 60, COLUMNS = 5, ROWS = 3 };
+enum { SIDE = 11, LEVELS = 128, VARIABLES = 60, COLUMNS = 5, ROWS = 3, PART = 5, FORGOTTEN = 6 };
 
 static double microseconds(void) {
   struct timespec t;
@@ -82,6 +82,24 @@ static BDD tables(int count) {
   return all;
 }
 
+/* What is left of random tables where the first levels are forgotten, part by part; or one level after another, first with each value. */
+static BDD forgotten(int count) {
+  BDD left = tables(count);
+  for (int part = 0; part < FORGOTTEN; part++) {
+    int levels[PART];
+    for (int l = 0; l < PART; l++) levels[l] = PART * part + l;
+    left = bdd_exist(left, bdd_makeset(levels, PART));
+  }
+  return left;
+}
+
+static BDD singly(int count) {
+  BDD left = tables(count);
+  for (int level = 0; level < PART * FORGOTTEN; level++)
+    left = bdd_or(bdd_restrict(left, bdd_nithvar(level)), bdd_restrict(left, bdd_ithvar(level)));
+  return left;
+}
+
 int main(int argc, char **argv) {
   bdd_init(20000000, 2000000);
   bdd_setvarnum(LEVELS);
@@ -92,6 +110,8 @@ int main(int argc, char **argv) {
     if (sscanf(argv[a], "queens=%d", &size) == 1) answer = queens(size);
     else if (sscanf(argv[a], "equal=%d", &size) == 1) answer = equal(size);
     else if (sscanf(argv[a], "tables=%d", &size) == 1) answer = tables(size);
+    else if (sscanf(argv[a], "forget=%d", &size) == 1) answer = forgotten(size);
+    else if (sscanf(argv[a], "singly=%d", &size) == 1) answer = singly(size);
     else return 2;
     double taken = microseconds() - start;
     bddStat stat;

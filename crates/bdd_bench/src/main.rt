@@ -7,6 +7,7 @@ ghost use Rattle.bdd_bench.specs.Fits.{Fits};
 
 mod chain;
 mod equal;
+mod forget;
 mod queens;
 mod tables;
 mod task;

@@ -2,7 +2,7 @@ ghost use Rattle.std.specs.Prelude.{◌≡◌, ◌≤◌, length, IfOk, IfSome};
 ghost use Rattle.bdd_core.specs.Diagram.{IsRef};
 ghost use Rattle.bdd_bench.specs.Fits.{Fits, levels_of};
 
-use crate::{chain, equal, queens, tables};
+use crate::{chain, equal, forget, queens, tables};
 use bdd_core::{Arena, Ref};
 use rsml_base::NoMemory;
 
@@ -15,6 +15,11 @@ pub enum Task {
     Equal(u32),
     /// The conjunction of so many random tables.
     Tables(u32),
+    /// What is left of so many random tables where the first levels are forgotten, one part after
+    /// another.
+    Forget(u32),
+    /// The same, one level after another.
+    Singly(u32),
     /// The conjunction of so many variables, from the last to the first, and calls that go down all
     /// of it.
     Bottom(u32),
@@ -34,6 +39,8 @@ impl Task {
             "queens" if size <= queens::MAX_SIZE => Some(Task::Queens(size)),
             "equal" if size <= equal::MAX_BITS => Some(Task::Equal(size)),
             "tables" => Some(Task::Tables(size)),
+            "forget" => Some(Task::Forget(size)),
+            "singly" => Some(Task::Singly(size)),
             "bottom" => Some(Task::Bottom(size)),
             "top" => Some(Task::Top(size)),
             _ => None,
@@ -45,7 +52,11 @@ impl Task {
         ensures { result ≡ levels_of self }
     {
         match self {
-            Task::Queens(_) | Task::Equal(_) | Task::Tables(_) => 128,
+            Task::Queens(_)
+            | Task::Equal(_)
+            | Task::Tables(_)
+            | Task::Forget(_)
+            | Task::Singly(_) => 128,
             Task::Bottom(size) | Task::Top(size) => size,
         }
     }
@@ -60,6 +71,8 @@ impl Task {
             Task::Queens(size) => queens::queens(arena, size),
             Task::Equal(bits) => equal::equal(arena, bits),
             Task::Tables(count) => tables::tables(arena, count),
+            Task::Forget(count) => forget::forgotten(arena, count),
+            Task::Singly(count) => forget::singly(arena, count),
             Task::Bottom(size) => chain::bottom(arena, size),
             Task::Top(size) => chain::top(arena, size),
         }
