@@ -1,7 +1,7 @@
 -- What a command leaves, from what its steps leave.
 use Rattle.std.proofs.Common.{◌≡◌, ◌≢◌, ◌<◌, ◌⊎◌, inl, inr, Option, Some, None, length, refl, sym, ap, ◌∙◌, subst}
 use Rattle.std.specs.Prelude.{IfSome}
-use Rattle.rsml.specs.Commands.{Bytes, Command, act, simulate, command_of, specification_file}
+use Rattle.rsml.specs.Commands.{Bytes, Command, act, simulate, demo, command_of, specification_file}
 use Rattle.rsml.specs.Commands as commands
 use Rattle.rsml.specs.FaultLines as lines
 use Rattle.rsml.specs.Output.{ActionOutput, Output, acted, no_command}
@@ -17,6 +17,7 @@ use Rattle.rsml.specs.declared.status.Status.{Status}
 use Rattle.rsml.specs.declared.status.Status.TheVariants as status
 use Rattle.rsml.proofs.HeadlineLemmas.{certified_output, refused_output}
 use Rattle.rsml.proofs.SimulationLemmas.{runs_simulation}
+use Rattle.rsml.proofs.DemoLemmas.{runs_demo}
 
 -- what an action comes to on a text that is too long
 long_output : (does : Action) (text : Bytes) → greatest_text < length text → ActionOutput does text status.TooLong lines.long
@@ -31,22 +32,23 @@ same_some x y e = ap (λ o. elim o [ Some z ↦ z | None ↦ x ]) e
 abbrev action_in : Action → Command → Action
 action_in other (act does file) = does
 action_in other (simulate file events) = other
+action_in other (demo n) = other
 
 module _ (m : Meeting) (answer : Status) (file : Bytes) (does : Action) (is : command_of m.words ≡ Some (act does file))
     (h : HasActed does (m.file file) m.sink answer) where
   answered : IsAnswered m answer
   answered no_memory no_read no_write contents told =
-      let o = h.output no_memory no_read no_write (contents file) (told (act does file) file is (commands.specification (act does file))) in
+      let o = h.output no_memory no_read no_write (contents file) (told (act does file) file is (commands.specification (act does file) file refl)) in
       (o.0, acted does file is o.1, o.2)
 
   read_refused : ReadRefused (m.file file) → SomeReadRefused m
-  read_refused rose = (act does file, file, is, commands.specification (act does file), rose)
+  read_refused rose = (act does file, file, is, commands.specification (act does file) file refl, rose)
 
   of_specification : (contents : Bytes → Bytes) → ReadRefused (m.file file) → ReadFaultOutput m contents lines.read
-  of_specification contents rose = promises.ReadFaultOutput.specification (act does file, is, rose) refl
+  of_specification contents rose = promises.ReadFaultOutput.specification (act does file, file, is, refl, rose) refl
 
   leaves : LeavesPrefix m answer
-  leaves e contents told = elim (h.prefix e (contents file) (told (act does file) file is (commands.specification (act does file)))) [
+  leaves e contents told = elim (h.prefix e (contents file) (told (act does file) file is (commands.specification (act does file) file refl))) [
     | inl o ↦ inl (o.0, o.1, acted does file is o.2, o.3)
     | inr o ↦ inr (lines.read, of_specification contents o.0, o.1)
   ]
@@ -61,7 +63,7 @@ module _ (m : Meeting) (answer : Status) (file : Bytes) (does : Action) (is : co
   checked : (text : Bytes) (c : Checks m text) → (does ≡ action.Check) × ((m.file file).told ≡ Some text)
   checked text c =
       let same = same_some (act does file) (act action.Check c.file) (sym is ∙ c.command) in
-      (ap (action_in does) same, subst (λ (f : Bytes). (m.file f).told ≡ Some text) (sym (ap specification_file same)) c.told)
+      (ap (action_in does) same, subst (λ (f : Bytes). (m.file f).told ≡ Some text) (sym (same_some file c.file (ap specification_file same))) c.told)
 
   output_on : (text : Bytes) → Checks m text → answer ≢ status.NoMemory → answer ≢ status.ReadFault → answer ≢ status.WriteFault
       → (bytes : Bytes) × ActionOutput action.Check text answer bytes × Writes m.sink bytes
@@ -97,6 +99,7 @@ module _ (m : Meeting) (answer : Status) (file : Bytes) (does : Action) (is : co
     certified = certifies;
     refused = refuses;
     traced = λ e text content c. absurd (cc (is, c.command));
+    demonstrated = λ e n c. absurd (cc (is, c));
   }
 
 -- what `run` promises, from what the command that the words are leaves
@@ -104,6 +107,7 @@ pub runs_command : (m : Meeting) (answer : Status) (c : Command) → command_of 
     → Runs m answer
 runs_command m answer (act does file) is h = runs_action m answer file does is h
 runs_command m answer (simulate file events) is h = runs_simulation m answer file events is h
+runs_command m answer (demo n) is h = runs_demo m answer n is h
 
 module _ (m : Meeting) (answer : Status) (none : command_of m.words ≡ None) (w : HasWritten m.sink lines.usage status.Usage answer) where
   told_usage : (given : Status) → answer ≡ given → given ≢ status.WriteFault → given ≢ status.Usage → ⊥
@@ -134,6 +138,7 @@ module _ (m : Meeting) (answer : Status) (none : command_of m.words ≡ None) (w
     certified = λ e text c. absurd (cc (none, c.command));
     refused = λ e text c. absurd (cc (none, c.command));
     traced = λ e text content c. absurd (cc (none, c.command));
+    demonstrated = λ e n c. absurd (cc (none, c));
   }
 
 -- a file that is too long, told so

@@ -1,4 +1,5 @@
 pub mod CommandLemmas
+pub mod DemoLemmas
 pub mod HeadlineLemmas
 pub mod JudgementLemmas
 pub mod LastLines
@@ -6,4 +7,6 @@ pub mod OneOutput
 pub mod OutcomeLemmas
 pub mod SimulationLemmas
 pub mod StartLemmas
+pub mod SummaryLemmas
 pub mod TextLemmas
+pub mod UnitLemmas

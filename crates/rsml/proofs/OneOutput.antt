@@ -1,7 +1,7 @@
 -- What a command answers and writes is one thing.
-use Rattle.std.proofs.Common.{◌≡◌, ◌≤◌, List, Some, None, Result, Ok, Err, length, map, refl, sym, ap, ◌∙◌, subst, arith}
+use Rattle.std.proofs.Common.{◌≡◌, ℕ, ◌≤◌, List, Some, None, Result, Ok, Err, length, map, refl, sym, ap, ◌∙◌, subst, arith}
 use Rattle.std.specs.Prelude.{◌++◌}
-use Rattle.one_run.specs.Laws.{LinesHaveOneRun}
+use Rattle.one_run.specs.Laws.{LastLineIsVerdict, LinesHaveOneRun}
 use Rattle.rsml_lexer.specs.Laws.{AtMostOneTokenList, AtMostOneFirstFault, NeverBoth}
 use Rattle.rsml_meaning.specs.Certified.{Certified}
 use Rattle.rsml_meaning.specs.EventFiles.{Line, program_limits, FileFault, IsWellFormed, IsFirstFault, lines_of, sound_lines}
@@ -29,19 +29,21 @@ use Rattle.simulator.specs.Outputs.{end_of, fault_line, done, faulty}
 use Rattle.simulator.specs.Outputs as simulation
 use Rattle.simulator.specs.declared.sim_end.SimEnd.{SimEnd}
 use Rattle.simulator.specs.declared.sim_end.SimEnd.TheVariants as end
-use Rattle.rsml.specs.Commands.{Bytes, Command, act, simulate}
+use Rattle.rsml.specs.Commands.{Bytes, Command, act, simulate, demo}
 use Rattle.rsml.specs.FaultLines as lines
 use Rattle.rsml.specs.Headline.{IsRightReport}
 use Rattle.rsml.specs.Judgements.{IsBroken}
 use Rattle.rsml.specs.Judgements as judged
 use Rattle.rsml.specs.Laws.{OutputIsOne}
-use Rattle.rsml.specs.Output.{SpecificationOutput, CheckOutput, FormatOutput, MigrateOutput, ActionOutput, SimulateOutput, IsCertifiedText, status_of, no_command, acted}
+use Rattle.rsml.specs.Output.{SpecificationOutput, CheckOutput, FormatOutput, MigrateOutput, ActionOutput, SimulateOutput, IsCertifiedText, status_of, no_command, acted, demonstrated}
 use Rattle.rsml.specs.Output as output
+use Rattle.rsml.specs.Summary.{IsSummary}
 use Rattle.rsml.specs.Texts.{greatest_text, HasFault, AreThemselves, IsTextOf, IsUnread, IsTextByFirst, IsUnreadByFirst, no_tokens, no_syntax, too_deep}
 use Rattle.rsml.specs.declared.command.Action.{Action}
 use Rattle.rsml.specs.declared.command.Action.TheVariants as action
 use Rattle.rsml.specs.declared.status.Status.{Status}
 use Rattle.rsml.specs.declared.status.Status.TheVariants as status
+use Rattle.rsml.proofs.SummaryLemmas.{one_summary}
 
 -- one status and one text
 abbrev AreOne : Status → Bytes → Status → Bytes → Type 0
@@ -51,6 +53,12 @@ AreOne a xs b ys = (a ≡ b) × (xs ≡ ys)
 abbrev OfCommand : (Bytes → Bytes) → Command → Status → Bytes → Type 0
 OfCommand contents (act does file) = ActionOutput does (contents file)
 OfCommand contents (simulate file events) = SimulateOutput (contents file) (contents events)
+OfCommand contents (demo n) = λ answer bytes. IsSummary n bytes
+
+-- the units of a command, or others in their place
+abbrev units_in : ℕ → Command → ℕ
+units_in other (demo n) = n
+units_in other _ = other
 
 same_some : {A : Type 0} (x y : A) → Some x ≡ Some y → x ≡ y
 same_some x y e = ap (λ o. elim o [ Some z ↦ z | None ↦ x ]) e
@@ -189,7 +197,7 @@ module _ (faults : AtMostOneFirstFault) (lists : AtMostOneTokenList) (never : Ne
   text_not : (text xs : Bytes) (s : Spec) → IsTextOf text s → IsUnread text xs → ⊥
   text_not text xs s t = read_not edition.Second AreThemselves one_self self_fit text xs t.reads.0 t.reads.0 s t.reads.1 refl t.reads.2
 
-  one_text : (text : Bytes) (s t : Spec) → IsTextOf text s → IsTextOf text t → s ≡ t
+  pub one_text : (text : Bytes) (s t : Spec) → IsTextOf text s → IsTextOf text t → s ≡ t
   one_text text s t h k =
       one_read edition.Second AreThemselves one_self self_fit text h.reads.0 h.reads.0 k.reads.0 k.reads.0 s t h.short h.reads.1 refl k.reads.1 refl h.reads.2 k.reads.2
 
@@ -261,7 +269,7 @@ module _ (faults : AtMostOneFirstFault) (lists : AtMostOneTokenList) (never : Ne
   -- Commands.
 
   module _ (one : ReportIsOne) (no_fault : WellFormedHasNoFault) (of_line : FirstFaultIsOfLine) (scopes : RulesGiveScopes)
-      (runs : LinesHaveOneRun) where
+      (runs : LinesHaveOneRun) (last : LastLineIsVerdict) where
     one_simulate : (text content : Bytes) (a b : Status) (xs ys : Bytes) → SimulateOutput text content a xs
         → SimulateOutput text content b ys → AreOne a xs b ys
     one_simulate text content a b xs ys (output.checked n o) (output.checked m p) = one_check one text a b xs ys o p
@@ -288,3 +296,12 @@ module _ (faults : AtMostOneFirstFault) (lists : AtMostOneTokenList) (never : Ne
     one_output words contents a b xs ys (output.Output.simulated file events is o) (output.Output.simulated file' events' at p) =
         let same = same_some (simulate file' events') (simulate file events) (sym at ∙ is) in
         one_simulate (contents file) (contents events) a b xs ys o (subst (λ (c : Command). OfCommand contents c b ys) same p)
+    one_output words contents a b xs ys (no_command none e h) (demonstrated n is f s) = absurd (cc (none, is))
+    one_output words contents a b xs ys (acted does file is o) (demonstrated n at f s) = absurd (cc (is, at))
+    one_output words contents a b xs ys (output.Output.simulated file events is o) (demonstrated n at f s) = absurd (cc (is, at))
+    one_output words contents a b xs ys (demonstrated n is e s) (no_command none f h) = absurd (cc (none, is))
+    one_output words contents a b xs ys (demonstrated n is e s) (acted does file at o) = absurd (cc (is, at))
+    one_output words contents a b xs ys (demonstrated n is e s) (output.Output.simulated file events at o) = absurd (cc (is, at))
+    one_output words contents a b xs ys (demonstrated n is e s) (demonstrated k at f t) =
+        let same : k ≡ n = ap (units_in n) (same_some (demo k) (demo n) (sym at ∙ is)) in
+        (e ∙ sym f, one_summary last one scopes runs n xs ys s (subst (λ (u : ℕ). IsSummary u ys) same t))

@@ -9,7 +9,7 @@ use Rattle.simulator.specs.Outputs as simulation
 use Rattle.simulator.specs.Simulating.{Simulates, StopsReading}
 use Rattle.simulator.specs.declared.sim_end.SimEnd.{SimEnd}
 use Rattle.simulator.specs.declared.sim_end.SimEnd.TheVariants as end
-use Rattle.rsml.specs.Commands.{Bytes, Command, act, simulate, command_of, specification_file}
+use Rattle.rsml.specs.Commands.{Bytes, Command, act, simulate, demo, command_of, specification_file}
 use Rattle.rsml.specs.Commands as commands
 use Rattle.rsml.specs.FaultLines as lines
 use Rattle.rsml.specs.Output.{CheckOutput, SimulateOutput, IsCertifiedText, status_of, checked}
@@ -99,6 +99,7 @@ rose_to a b c e r = subst (λ (n : ℕ). Rose a n) e r
 abbrev events_of : Bytes → Command → Bytes
 events_of other (act does file) = other
 events_of other (simulate file events) = events
+events_of other (demo n) = other
 
 -- What stands after `simulate`, however it went.
 record Leaves (m : Meeting) (answer : Status) (file events : Bytes) : Type 0 where
@@ -113,16 +114,16 @@ record Leaves (m : Meeting) (answer : Status) (file events : Bytes) : Type 0 whe
 
 module _ (m : Meeting) (answer : Status) (file events : Bytes) (is : command_of m.words ≡ Some (simulate file events)) where
   told_file : (contents : Bytes → Bytes) → Tells m contents → (m.file file).told ≡ Some (contents file)
-  told_file contents told = told (simulate file events) file is (commands.specification (simulate file events))
+  told_file contents told = told (simulate file events) file is (commands.specification (simulate file events) file refl)
 
   told_events : (contents : Bytes → Bytes) → Tells m contents → (m.file events).told ≡ Some (contents events)
   told_events contents told = told (simulate file events) events is (commands.events file events)
 
   of_specification : (contents : Bytes → Bytes) → ReadRefused (m.file file) → ReadFaultOutput m contents lines.read
-  of_specification contents rose = promises.ReadFaultOutput.specification (simulate file events, is, rose) refl
+  of_specification contents rose = promises.ReadFaultOutput.specification (simulate file events, file, is, refl, rose) refl
 
   file_refused : ReadRefused (m.file file) → SomeReadRefused m
-  file_refused rose = (simulate file events, file, is, commands.specification (simulate file events), rose)
+  file_refused rose = (simulate file events, file, is, commands.specification (simulate file events) file refl, rose)
 
   events_refused : ReadRefused (m.file events) → SomeReadRefused m
   events_refused rose = (simulate file events, events, is, commands.events file events, rose)
@@ -146,7 +147,7 @@ module _ (m : Meeting) (answer : Status) (file events : Bytes) (is : command_of 
     traces : Traces m answer
     traces e text content c =
         let same = same_some (simulate file events) (simulate c.file c.events) (sym is ∙ c.command) in
-        let of_file = subst (λ (f : Bytes). (m.file f).told ≡ Some text) (sym (ap specification_file same)) c.told in
+        let of_file = subst (λ (f : Bytes). (m.file f).told ≡ Some text) (sym (same_some file c.file (ap specification_file same))) c.told in
         let of_events = subst (λ (f : Bytes). (m.file f).told ≡ Some content) (sym (ap (events_of events) same)) c.told_events in
         let o = h.simulation_output (λ f. cc (e, f)) (λ f. cc (e, f)) (λ f. cc (e, f)) text content of_file of_events in
         let r = traced_output text content answer o.0 e o.1 in
@@ -164,6 +165,7 @@ module _ (m : Meeting) (answer : Status) (file events : Bytes) (is : command_of 
       certified = λ e text c. absurd (cc (is, c.command));
       refused = λ e text c. absurd (cc (is, c.command));
       traced = traces;
+      demonstrated = λ e n c. absurd (cc (is, c));
     }
 
   -- What it leaves, step by step.

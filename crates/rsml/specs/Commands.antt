@@ -1,6 +1,7 @@
 -- The commands: what the words after the program's name ask for.
-use Rattle.std.specs.Prelude.{ℕ, true, false, List, [], ◌∷◌, Option, Some, None, codes, option_map, if◌then◌else◌}
+use Rattle.std.specs.Prelude.{ℕ, ◌≡◌, ◌≤◌, true, false, List, [], ◌∷◌, Option, Some, None, codes, option_map, if◌then◌else◌, ⊤}
 use Rattle.rsml_syntax.specs.text.Names.{same}
+use Rattle.rsml.specs.Units.{units_of}
 use Rattle.rsml.specs.declared.command.Action.{Action}
 use Rattle.rsml.specs.declared.command.Action.TheVariants as action
 
@@ -18,12 +19,14 @@ action_of word = elim (same word (codes "check")) [
   ]
 ]
 
--- What is asked for, by the names of files:
+-- What is asked for, by the names of files or the number of units:
 pub data Command : Type 0 where
   -- an action on a specification
   act : Action → Bytes → Command
   -- the simulation of a specification over an event file
   simulate : Bytes → Bytes → Command
+  -- the summary of the generated specification and events of so many units
+  demo : ℕ → Command
 
 -- this action on this file
 abbrev pub with_file : Bytes → Action → Command
@@ -31,16 +34,22 @@ with_file file action = act action file
 
 -- the command that the words are, if they are one
 abbrev pub command_of : List Bytes → Option Command
-command_of (word ∷ file ∷ []) = option_map (with_file file) (action_of word)
+command_of (word ∷ file ∷ []) = if same word (codes "demo") then option_map demo (units_of file) else option_map (with_file file) (action_of word)
 command_of (word ∷ file ∷ events ∷ []) = if same word (codes "simulate") then Some (simulate file events) else None
 command_of _ = None
 
--- the file of the command's specification
-abbrev pub specification_file : Command → Bytes
-specification_file (act action file) = file
-specification_file (simulate file events) = file
+-- the units are from 1 to 64
+abbrev pub AreUnits : Command → Type 0
+AreUnits (demo n) = (1 ≤ n) × (n ≤ 64)
+AreUnits _ = ⊤
+
+-- the file of the command's specification, if it reads one
+abbrev pub specification_file : Command → Option Bytes
+specification_file (act action file) = Some file
+specification_file (simulate file events) = Some file
+specification_file (demo n) = None
 
 -- the command names this file
 pub data Names : Command → Bytes → Type 0 where
-  specification : (c : Command) → Names c (specification_file c)
+  specification : (c : Command) (file : Bytes) → specification_file c ≡ Some file → Names c file
   events : (file events : Bytes) → Names (simulate file events) events

@@ -8,5 +8,7 @@ pub mod Output
 pub mod Promises
 pub mod Statuses
 pub mod Steps
+pub mod Summary
 pub mod Texts
+pub mod Units
 pub mod Uses

@@ -9,11 +9,12 @@ use Rattle.one_run.specs.Deterministic.{IsDeterministic}
 use Rattle.simulator.specs.Outputs as simulation
 use Rattle.simulator.specs.declared.sim_end.SimEnd.{SimEnd}
 use Rattle.simulator.specs.declared.sim_end.SimEnd.TheVariants as end
-use Rattle.rsml.specs.Commands.{Bytes, act, simulate, command_of}
+use Rattle.rsml.specs.Commands.{Bytes, act, simulate, demo, command_of}
 use Rattle.rsml.specs.FaultLines as lines
 use Rattle.rsml.specs.Headline.{IsCertificate, IsRefusal}
 use Rattle.rsml_syntax.specs.limits.Limits.{Keeps}
 use Rattle.rsml.specs.Judgements.{IsBroken}
+use Rattle.rsml.specs.Summary.{IsSummary}
 use Rattle.rsml.specs.Texts.{IsTextOf, IsUnread, IsTextByFirst, IsUnreadByFirst, greatest_text}
 use Rattle.rsml.specs.declared.command.Action.{Action}
 use Rattle.rsml.specs.declared.command.Action.TheVariants as action
@@ -81,6 +82,7 @@ pub data Output (words : List Bytes) (contents : Bytes → Bytes) (answer : Stat
       → ActionOutput action (contents file) answer bytes → Output words contents answer bytes
   simulated : (file events : Bytes) → command_of words ≡ Some (simulate file events)
       → SimulateOutput (contents file) (contents events) answer bytes → Output words contents answer bytes
+  demonstrated : (n : ℕ) → command_of words ≡ Some (demo n) → answer ≡ status.Done → IsSummary n bytes → Output words contents answer bytes
 
 -- What is written where a read of the event file is refused when so many of its bytes have been read.
 pub record ReadOutput (words : List Bytes) (contents : Bytes → Bytes) (events : Bytes) (k : ℕ) (bytes : Bytes) : Type 0 where

@@ -4,10 +4,11 @@ use Rattle.rsml_syntax.specs.declared.syntax.Spec.{Spec}
 use Rattle.rsml_meaning.specs.EventFiles.{program_limits, lines_of, IsWellFormed}
 use Rattle.rsml_meaning.specs.Runs.{Reaction, IsRun}
 use Rattle.rsml_meaning.specs.Trace.{whole_trace}
-use Rattle.rsml.specs.Commands.{Bytes, Command, act, simulate, command_of, specification_file, Names}
+use Rattle.rsml.specs.Commands.{Bytes, Command, act, simulate, demo, command_of, specification_file, Names}
 use Rattle.rsml.specs.FaultLines as lines
 use Rattle.rsml.specs.Headline.{IsCertificate, IsRefusal}
 use Rattle.rsml.specs.Output.{Output, ReadOutput, IsCertifiedText}
+use Rattle.rsml.specs.Summary.{IsSummary}
 use Rattle.rsml.specs.Texts.{IsTextOf}
 use Rattle.rsml.specs.Uses.{FileUse, SinkUse, ReadRefused, WriteRefused, Writes, WritesPrefix, WritesNothing}
 use Rattle.rsml.specs.declared.command.Action.TheVariants as action
@@ -26,7 +27,7 @@ Tells m contents = (c : Command) (file : Bytes) → command_of m.words ≡ Some 
 
 -- a read of the command's specification was refused
 abbrev pub SpecificationReadRefused : Meeting → Type 0
-SpecificationReadRefused m = (c : Command) × (command_of m.words ≡ Some c) × ReadRefused (m.file (specification_file c))
+SpecificationReadRefused m = (c : Command) × (file : Bytes) × (command_of m.words ≡ Some c) × (specification_file c ≡ Some file) × ReadRefused (m.file file)
 
 -- a read of a file that the command names was refused
 abbrev pub SomeReadRefused : Meeting → Type 0
@@ -109,7 +110,11 @@ abbrev pub Traces : Meeting → Status → Type 0
 Traces m answer = answer ≡ status.Done → (text content : Bytes) → Simulates m text content
     → (s : Spec) × (bytes : Bytes) × IsCertifiedText text s × IsTraced s content bytes × Writes m.sink bytes
 
--- All that `run` promises; the headline is in the fields `certified`, `refused` and `traced`.
+-- Where `demo` ends with Done, the summary of its units was written.
+abbrev pub Demonstrates : Meeting → Status → Type 0
+Demonstrates m answer = answer ≡ status.Done → (n : ℕ) → command_of m.words ≡ Some (demo n) → (bytes : Bytes) × IsSummary n bytes × Writes m.sink bytes
+
+-- All that `run` promises; the headline is in the fields `certified`, `refused`, `traced` and `demonstrated`.
 pub record Runs (m : Meeting) (answer : Status) : Type 0 where
   pub answered : IsAnswered m answer
   pub usage : IsUsage m answer
@@ -121,3 +126,4 @@ pub record Runs (m : Meeting) (answer : Status) : Type 0 where
   pub certified : Certifies m answer
   pub refused : Refuses m answer
   pub traced : Traces m answer
+  pub demonstrated : Demonstrates m answer

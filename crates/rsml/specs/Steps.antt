@@ -14,9 +14,10 @@ use Rattle.rsml_syntax.specs.text.Lexing.{Fault}
 use Rattle.rsml_syntax.specs.text.Tokens.{Tokens}
 use Rattle.simulator.specs.Simulating as simulation
 use Rattle.simulator.specs.declared.sim_end.SimEnd.{SimEnd}
-use Rattle.rsml.specs.Commands.{Bytes, Command, act, simulate}
+use Rattle.rsml.specs.Commands.{Bytes, Command, act, simulate, demo}
 use Rattle.rsml.specs.FaultLines as lines
 use Rattle.rsml.specs.Output.{ActionOutput, CheckOutput, IsCertifiedText, status_of}
+use Rattle.rsml.specs.Summary.{IsSummary}
 use Rattle.rsml.specs.Texts.{IsTextOf, IsUnread, IsTextByFirst, IsUnreadByFirst, greatest_text}
 use Rattle.rsml.specs.Uses.{FileUse, SinkUse, ReadRefused, WriteRefused, Writes, WritesPrefix, WritesNothing}
 use Rattle.rsml.specs.declared.command.Action.{Action}
@@ -167,7 +168,13 @@ pub data HasSimulated (file events : Bytes) (files : Bytes → FileUse) (k : Sin
   read : (text : Bytes) (rest : FileUse) → IfSome (files file).told (λ told. text ≡ told) → IsRestOf file events (files events) rest
       → HasSimulatedText text rest k answer → HasSimulated file events files k answer
 
+-- What `demo` wrote for so many units, and how it ended.
+pub data HasDemonstrated (n : ℕ) (k : SinkUse) (answer : Status) : Type 0 where
+  no_memory : answer ≡ status.NoMemory → WritesNothing k → HasDemonstrated n k answer
+  summed : (bytes : Bytes) → IsSummary n bytes → HasWritten k bytes status.Done answer → HasDemonstrated n k answer
+
 -- What a command wrote, and how it ended.
 abbrev pub HasObeyed : Command → (Bytes → FileUse) → SinkUse → Status → Type 0
 HasObeyed (act action file) files k answer = HasActed action (files file) k answer
 HasObeyed (simulate file events) files k answer = HasSimulated file events files k answer
+HasObeyed (demo n) files k answer = HasDemonstrated n k answer

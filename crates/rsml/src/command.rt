@@ -2,6 +2,8 @@ ghost use Rattle.std.specs.Prelude.{◌≡◌, map, option_map, string_bytes};
 ghost use Rattle.rsml.specs.Asked.{asked};
 ghost use Rattle.rsml.specs.Commands.{action_of, command_of};
 
+use crate::units::units_in;
+
 /// What a command does with a specification.
 #[derive(Clone, Copy, Debug, PartialEq, Eq)]
 pub enum Action {
@@ -13,13 +15,15 @@ pub enum Action {
     Migrate,
 }
 
-/// A command, with the names of its files.
+/// A command, with the names of its files, or the number of units.
 #[derive(Clone, Copy, Debug)]
 pub enum Command<'a> {
     /// An action on a specification.
     Act { action: Action, file: &'a str },
     /// The simulation of a specification over an event file.
     Simulate { file: &'a str, events: &'a str },
+    /// The summary of the generated specification and events of 1 to 64 units.
+    Demo { units: u32 },
 }
 
 /// The action of a word.
@@ -44,6 +48,10 @@ pub fn command_in(words: &[String]) -> Option<Command<'_>>
 {
     match words {
         [word, file] => {
+            if word.as_str() == "demo" {
+                let units = units_in(file.as_str().as_bytes())?;
+                return Some(Command::Demo { units });
+            }
             let action = action_called(word.as_str())?;
             let file = file.as_str();
             Some(Command::Act { action, file })

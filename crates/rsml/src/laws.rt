@@ -1,6 +1,6 @@
 ghost use Rattle.rsml.specs.Laws.{OutputIsOne};
 
-use one_run::event_files_have_one_run;
+use one_run::{event_files_have_one_run, last_lines_tell_the_verdict};
 use rsml_lexer::{at_most_one_first_fault, at_most_one_token_list, never_both};
 use rsml_meaning::{
     a_first_fault_is_of_a_line, a_report_is_one_text, well_formed_files_have_no_fault,
@@ -21,4 +21,5 @@ pub fn an_output_is_one()
     a_first_fault_is_of_a_line();
     rules_give_scopes();
     event_files_have_one_run();
+    last_lines_tell_the_verdict();
 }

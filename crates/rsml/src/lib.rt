@@ -2,6 +2,7 @@
 #![tactic(auto)]
 
 mod command;
+mod demonstrating;
 mod fault_lines;
 mod finishing;
 mod judging;
@@ -11,8 +12,10 @@ mod running;
 mod simulating;
 mod status;
 mod texts;
+mod units;
 
 pub use command::{Action, Command};
+pub use demonstrating::demo;
 pub use judging::{Judgement, judge};
 pub use laws::an_output_is_one;
 pub use running::run;

@@ -1,9 +1,11 @@
 ghost use Rattle.std.specs.Prelude.{◌≡◌, map, string_bytes, List, ℕ};
 ghost use Rattle.rsml.specs.Asked.{asked};
+ghost use Rattle.rsml.specs.Commands.{AreUnits};
 ghost use Rattle.rsml.specs.Promises.{Runs};
 ghost use Rattle.rsml.specs.Steps as steps;
 
 use crate::command::{Action, Command, command_in};
+use crate::demonstrating::demo;
 use crate::finishing::finish;
 use crate::outcome::outcome_of;
 use crate::simulating::simulate;
@@ -65,6 +67,7 @@ fn obey<F: Files, K: Sink>(
     files: &mut F,
     sink: &mut K,
 ) -> Status
+    requires { AreUnits (asked command) }
     ensures obeyed { steps.HasObeyed (asked command.entry) (λ name. record {
       told = F.contents files.old name;
       reach = F.reach files.old name;
@@ -82,6 +85,7 @@ fn obey<F: Files, K: Sink>(
     match command {
         Command::Act { action, file } => act(alloc, action, file, files, sink),
         Command::Simulate { file, events } => simulate(alloc, file, events, files, sink),
+        Command::Demo { units } => demo(alloc, units, sink),
     }
 }
 
