@@ -5,7 +5,8 @@
 # there and the check takes less than two seconds, the share of each stage in the instructions of `check`: reading (lexer and parser),
 # rules and limits, the machine, the diagrams of states and phrases, and the groups (event chains, verdicts with counterexamples, and
 # the report).
-# It ends with status 1 where a text is no specification that keeps the rules. PROGRAM=FILE takes a program that is built already.
+# It ends with status 1 where a text is no specification that keeps the rules. PROGRAM=FILE takes a program that is built already, and
+# SHARES=no leaves out the shares.
 set -eu
 cd "$(dirname "$0")/.."
 turns=${1:-3}
@@ -121,8 +122,11 @@ shares() {
     }' "$1"
 }
 
+with_shares=
+if [ "${SHARES:-}" != no ] && command -v valgrind > /dev/null; then with_shares=1; fi
 format='%-13s %8s %7s %8s %9s %9s %7s %7s%s\n'
-printf "$format" specification bytes groups findings format check ratio MB "  reading    rules  machine diagrams   groups"
+# shellcheck disable=SC2059
+printf "$format" specification bytes groups findings format check ratio MB "${with_shares:+  reading    rules  machine diagrams   groups}"
 while read -r name; do
   reading=$(least format "$work/$name")
   check=$(least check "$work/$name")
@@ -131,11 +135,12 @@ while read -r name; do
   findings=$(grep -cE '^(none|two) ' "$work/output" || true)
   /usr/bin/time -o "$work/memory" -f %M "$program" check "$work/$name" > /dev/null || true
   shares=
-  if command -v valgrind > /dev/null && awk -v t="$check" 'BEGIN { exit !(t < 2000) }'; then
+  if [ -n "$with_shares" ] && awk -v t="$check" 'BEGIN { exit !(t < 2000) }'; then
     valgrind --tool=callgrind --callgrind-out-file="$work/counts" "$program" check "$work/$name" > /dev/null 2>&1 || true
     callgrind_annotate --inclusive=yes --threshold=100 "$work/counts" > "$work/counted" 2> /dev/null
     shares=$(shares "$work/counted")
   fi
+  # shellcheck disable=SC2059
   printf "$format" "$name" "$(stat -c %s "$work/$name")" "$groups" "$findings" "$reading" "$check" \
     "$(awk -v r="$reading" -v c="$check" 'BEGIN { printf "%.1f", c / r }')" "$(tail -n 1 "$work/memory" | awk '{ printf "%.0f", $1 / 1024 }')" "$shares"
 done < "$work/names"

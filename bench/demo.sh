@@ -4,7 +4,7 @@
 # memory. Behind it, where `valgrind` is there, the share of each stage in its instructions: reading (lexer and parser), rules and limits,
 # the machine, the diagrams of states and phrases, the groups (event chains, verdicts and the report), and the run of the 1,000 events.
 # The machine is made twice, for the analysis and for the run. The aim is 100 milliseconds for 64 units.
-# PROGRAM=FILE takes a program that is built already.
+# PROGRAM=FILE takes a program that is built already, and SHARES=no leaves out the shares.
 set -eu
 cd "$(dirname "$0")/.."
 turns=${1:-3}
@@ -39,12 +39,14 @@ shares() {
     }' "$1"
 }
 
-printf '%-8s %9s %7s%s\n' units ms MB "  reading    rules  machine diagrams   groups      run"
+with_shares=
+if [ "${SHARES:-}" != no ] && command -v valgrind > /dev/null; then with_shares=1; fi
+printf '%-8s %9s %7s%s\n' units ms MB "${with_shares:+  reading    rules  machine diagrams   groups      run}"
 for units in 1 8 40 64; do
   taken=$(least "$units")
   /usr/bin/time -o "$work/memory" -f %M "$program" demo "$units" > /dev/null
   told=
-  if command -v valgrind > /dev/null; then
+  if [ -n "$with_shares" ]; then
     valgrind --tool=callgrind --callgrind-out-file="$work/counts" "$program" demo "$units" > /dev/null 2>&1
     callgrind_annotate --inclusive=yes --threshold=100 "$work/counts" > "$work/counted" 2> /dev/null
     told=$(shares "$work/counted")

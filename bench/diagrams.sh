@@ -1,7 +1,8 @@
 #!/usr/bin/env bash
 # Compares the arena of bdd_core with BuDDy on the same work: bench/diagrams.sh [ROUNDS [TASK..]]
 # Each task runs ROUNDS times (3) in each program, one after the other, and the least time counts. A task is queens=N,
-# equal=N or tables=N. BuDDy makes its tables before its time begins, for 20,000,000 nodes and 2,000,000 results, and never
+# equal=N, tables=N, forget=N or singly=N (what is left of tables=N where thirty levels are forgotten, five at a time, or one
+# by one). BuDDy makes its tables before its time begins, for 20,000,000 nodes and 2,000,000 results, and never
 # reorders; the arena grows by itself, and its time has the making of the arena and the count of the answer's nodes too. The
 # sizes of the answers are compared. The last columns are the arena's greatest resident memory, and that for each node.
 # It needs BuDDy (Debian: libbdd-dev) and a C compiler, and installs nothing: without them it ends with status 2.
@@ -10,7 +11,7 @@ here=$(cd "$(dirname "$0")" && pwd)
 rounds=${1:-3}
 shift $(($# > 0 ? 1 : 0))
 tasks=("$@")
-[ ${#tasks[@]} -gt 0 ] || tasks=(queens=8 queens=9 queens=10 equal=16 equal=19 tables=6 tables=8)
+[ ${#tasks[@]} -gt 0 ] || tasks=(queens=8 queens=9 queens=10 equal=16 equal=19 tables=6 tables=8 forget=5 forget=6 singly=5 singly=6)
 work=$(mktemp -d)
 trap 'rm -rf "$work"' EXIT
 

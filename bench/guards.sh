@@ -3,7 +3,7 @@
 # A line for each specification of bench/texts.sh that is named here, or for each TEXT: its bytes and groups, how many groups are not
 # sound, the milliseconds of `PROGRAM check` with its greatest resident memory, those of z3, and those of BuDDy with the nodes that it
 # makes. A ratio is the time of PROGRAM over that of the peer; each time is the least of TURNS (3) runs, of at most 120 seconds of
-# processor time. Without PROGRAM, or with -, the program is built.
+# processor time. Without PROGRAM, or with -, it is the one that the environment's PROGRAM names, or else is built.
 #
 # What is timed: of PROGRAM all that it does, with reading, chains, and a least world for each finding. Of z3 all that it does with the
 # script of bench/smt.py, which asks two questions a group; the quicker of its two encodings counts. Of BuDDy only the steps of
@@ -13,6 +13,7 @@
 set -eu
 cd "$(dirname "$0")/.."
 program=${1:--}
+[ "$program" != - ] || program=${PROGRAM:--}
 turns=${2:-3}
 shift $(($# > 2 ? 2 : $#))
 limit=120
@@ -60,10 +61,10 @@ text pairs_5_mistaken pairs 5 mistaken
 
 # timed OUTPUT COMMAND..: runs a command. `least` is the least of the microseconds of so many turns, and `status` that of the last.
 timed() {
-  local output=$1 turn start taken
+  local output=$1 start taken
   shift
   least=
-  for turn in $(seq "$turns"); do
+  for _ in $(seq "$turns"); do
     status=0
     start=${EPOCHREALTIME/[.,]/}
     { (ulimit -t "$limit"; exec "$@") > "$output" 2> "$work/error"; } 2> "$work/killed" || status=$?
@@ -112,8 +113,7 @@ solved() {
 # built NAME: BuDDy, where there are steps.
 built() {
   python3 bench/diagram_steps.py "$work/text" > "$work/questions" || return 0
-  local turn
-  for turn in $(seq "$turns"); do
+  for _ in $(seq "$turns"); do
     "$work/buddy" "$work/questions" > "$work/answers"
     figure buddy "$(sed -n 's/^nodes .* microseconds //p' "$work/answers")"
   done
@@ -125,6 +125,7 @@ sed -n 's/^model name\s*: //p' /proc/cpuinfo | sort | uniq -c | sed 's/^ *\([0-9
 awk '/^MemTotal/ { printf "%.0f GB\n", $2 / 1e6 }' /proc/meminfo
 z3 --version
 format='%-19s %7s %6s %7s %9s %6s %9s %8s %9s %10s %8s\n'
+# shellcheck disable=SC2059
 printf "$format" specification bytes groups unsound 'ours ms' MB 'z3 ms' ours/z3 'BuDDy ms' ours/BuDDy nodes
 failed=0
 for name in "${names[@]}"; do

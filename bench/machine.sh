@@ -93,6 +93,7 @@ measure() {
 }
 
 format='%-10s %8s %6s %6s %7s %11s %6s %8s %10s %10s %6s %10s %6s %7s\n'
+# shellcheck disable=SC2059
 printf "$format" text bytes states events phrases transitions groups members 'machine ms' 'reading ms' ratio 'machine KB' times 'ns each'
 while read -r name; do
   if [ -z "$name" ]; then echo; continue; fi

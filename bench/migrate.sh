@@ -1,11 +1,11 @@
 #!/usr/bin/env bash
 # `migrate` against `format`, on a text of a million bytes that holds the names previous_1, previous_2, .. and no others:
 # the time of the program in milliseconds, least of fifteen, and the ratio. Answers are compared: `migrate` of a text without the
-# name `previous` writes what `format` writes.
+# name `previous` writes what `format` writes. PROGRAM=FILE takes a program that is built already.
 set -u
 cd "$(dirname "$0")/.." || exit 1
-./rsml format examples/lamp.rsml >/dev/null || exit 1
-program=crates/rsml_main/out/rsml_main
+[ -n "${PROGRAM:-}" ] || ./rsml format examples/lamp.rsml >/dev/null || exit 1
+program=${PROGRAM:-crates/rsml_main/out/rsml_main}
 folder=$(mktemp -d) || exit 1
 trap 'rm -rf "$folder"' EXIT
 

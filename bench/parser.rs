@@ -1,5 +1,6 @@
 // The reader of `rsml_parser` in plain Rust, as a baseline: `parser FILE ROUNDS` prints the number of tokens and of
-// declarations, and the nanoseconds of the shortest round. The tokens are those of the plain lexer.
+// declarations, and the nanoseconds of the shortest round. The tokens are those of the plain lexer. They are made anew for
+// each round before its time begins, as in `text_bench`, so that both find memory in the same state.
 #[allow(dead_code)]
 mod lexer {
     include!("lexer.rs");
@@ -358,16 +359,17 @@ mod lexer {
             let words: Vec<String> = env::args().skip(1).collect();
             let text = fs::read(&words[0]).expect("a file");
             let rounds: u32 = words[1].parse().expect("a number of rounds");
-            let tokens = lex(&text).expect("tokens");
-            let mut declarations = 0;
+            let (mut count, mut declarations) = (0, 0);
             let mut nanoseconds = u128::MAX;
             for _ in 0..rounds {
+                let tokens = lex(&text).expect("tokens");
                 let start = Instant::now();
                 let found = parse(&tokens);
                 nanoseconds = nanoseconds.min(start.elapsed().as_nanos());
+                count = tokens.len();
                 declarations = found.map_or(0, |spec| spec.decls.len());
             }
-            println!("tokens {}", tokens.len());
+            println!("tokens {count}");
             println!("declarations {declarations}");
             println!("nanoseconds {nanoseconds}");
         }

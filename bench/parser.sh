@@ -1,14 +1,17 @@
 #!/usr/bin/env bash
-# Compares the parser with the same reader in plain Rust, on one specification of nearly 1 MiB: the shortest of 100 rounds
-# of each, in turns of 20. Prints the ratio, and how many bytes of memory a token's part of the specification takes.
+# Compares the parser with the same reader in plain Rust, on one specification of 1 MiB. Both make the tokens before the time of
+# a round begins. `fresh` is a round in a process that has read nothing before, as that of `rsml`, and gets its memory from the
+# kernel page by page: the shortest of 100, by turns. In `kept` the allocator has the memory from the rounds before, and gives
+# none back to the kernel: the shortest of 100 rounds of each, in turns of 20. Then it prints how much memory the specification
+# takes for each token.
 set -eu
 cd "$(dirname "$0")/.."
 work=$(mktemp -d)
 trap 'rm -rf "$work"' EXIT
 
-# A specification with some 1,400 parts: declarations for each, and states for each.
+# A specification with some 1,900 parts: declarations for each, and states for each.
 awk 'BEGIN {
-  parts = 1340
+  parts = 1929
   print "specification Plant;"
   for (n = 1; n <= parts; n++) {
     printf "range Level_%d 0 .. 999;\nconstant Limit_%d = %d;\n", n, n, n * 7
@@ -28,27 +31,36 @@ awk 'BEGIN {
 echo "bytes $(wc -c < "$work/text")"
 
 rustc -O -o "$work/plain" bench/parser.rs
+rustc -O -o "$work/plain_lexer" bench/lexer.rs
 (cd crates/text_bench && rt run -- parser "$work/text" 1 > /dev/null)
 bench=crates/text_bench/out/text_bench
-"$bench" lexer "$work/text" 1 > "$work/proved.out"
-for _ in 1 2 3 4 5; do
-  "$work/plain" "$work/text" 20 >> "$work/plain.out"
-  "$bench" parser "$work/text" 20 time >> "$work/proved.out"
-done
+"$bench" lexer "$work/text" 1 > "$work/tokens"
 
-# The most memory that a command takes, in bytes.
-memory() { python3 -c 'import resource, subprocess, sys; subprocess.run(sys.argv[1:], stdout=subprocess.DEVNULL); print(resource.getrusage(resource.RUSAGE_CHILDREN).ru_maxrss * 1024)' "$@"; }
-lexed=$(memory "$bench" lexer "$work/text" 1)
-parsed=$(memory "$bench" parser "$work/text" 1)
+# by_turns NAME TURNS ROUNDS: runs both by turns, with so many rounds each, and keeps what they print.
+by_turns() {
+  for _ in $(seq "$2"); do
+    "$work/plain" "$work/text" "$3" >> "$work/plain.$1"
+    "$bench" parser "$work/text" "$3" time >> "$work/proved.$1"
+  done
+}
+by_turns fresh 100 1
+(export MALLOC_TRIM_THRESHOLD_=1000000000 MALLOC_MMAP_THRESHOLD_=33554432; by_turns kept 5 20)
 
-counts() { grep -v nanoseconds "$1" | sort -u; }
+# memory COMMAND: the greatest resident memory of a command, in kilobytes.
+memory() { /usr/bin/time -o "$work/memory" -f %M "$@" > /dev/null && tail -n 1 "$work/memory"; }
+
+counts() { cat "$@" | grep -v nanoseconds | sort -u; }
 least() { awk '$1 == "nanoseconds" && (least == "" || $2 + 0 < least + 0) { least = $2 } END { print least }' "$1"; }
-[ "$(counts "$work/plain.out")" = "$(counts "$work/proved.out")" ] || { echo "the counts differ"; exit 1; }
-counts "$work/proved.out"
-plain=$(least "$work/plain.out")
-proved=$(least "$work/proved.out")
-tokens=$(awk '$1 == "tokens" { print $2; exit }' "$work/proved.out")
-echo "plain Rust: $plain ns"
-echo "proved: $proved ns"
-awk -v p="$proved" -v r="$plain" 'BEGIN { printf "ratio %.2f\n", p / r }'
-awk -v b="$((parsed - lexed))" -v t="$tokens" 'BEGIN { printf "memory %.0f bytes a token\n", b / t }'
+counts "$work"/plain.* > "$work/theirs"
+counts "$work/tokens" "$work"/proved.* > "$work/ours"
+cmp -s "$work/theirs" "$work/ours" || { echo "the counts differ"; exit 1; }
+cat "$work/ours"
+printf '%-6s %9s %9s %7s %5s\n' memory 'ours ms' 'peer ms' ratio aim
+for state in fresh kept; do
+  awk -v state=$state -v ours="$(least "$work/proved.$state")" -v peer="$(least "$work/plain.$state")" \
+    'BEGIN { printf "%-6s %9.2f %9.2f %7.2f %5.2f\n", state, ours / 1e6, peer / 1e6, ours / peer, 1.5 }'
+done
+ours=$(($(memory "$bench" parser "$work/text" 1) - $(memory "$bench" lexer "$work/text" 1)))
+peer=$(($(memory "$work/plain" "$work/text" 1) - $(memory "$work/plain_lexer" "$work/text" 1)))
+awk -v ours="$ours" -v peer="$peer" -v tokens="$(awk '$1 == "tokens" { print $2 }' "$work/ours")" \
+  'BEGIN { printf "memory %.0f bytes a token, plain Rust %.0f, ratio %.2f\n", ours * 1024 / tokens, peer * 1024 / tokens, ours / peer }'

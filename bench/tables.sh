@@ -9,8 +9,9 @@ turns=${2:-5}
 scratch=$(mktemp -d)
 trap 'rm -rf "$scratch"' EXIT
 rustc -O -o "$scratch/tables" "$top/bench/tables.rs"
-(cd "$top/crates/table_bench" && rt run -- "$words" "$turns") > "$scratch/log" 2> "$scratch/errors" ||
+(cd "$top/crates/table_bench" && rt run -- 1000 1) > "$scratch/built" 2> "$scratch/errors" ||
     { cat "$scratch/errors" >&2; exit 1; }
+"$top/crates/table_bench/out/table_bench" "$words" "$turns" > "$scratch/log"
 "$scratch/tables" "$words" "$turns" >> "$scratch/log"
 grep ' us$' "$scratch/log" | awk -F ': ' '
     { split($2, part, " "); name[NR] = $1; answer[NR] = part[1]; time[NR] = part[3] }

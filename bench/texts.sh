@@ -1,4 +1,5 @@
-# Specifications of many sizes, for the scripts that measure checks. Each function writes one to standard output, always the same.
+# shellcheck shell=bash
+# Specifications of many sizes, for the scripts that measure. Each function writes one to standard output, always the same.
 
 # written PROGRAM [FUNCTIONS]: what an awk program puts; `below(n)` draws a number below n, from a fixed linear congruential sequence.
 written() {
@@ -395,6 +396,28 @@ great() {
       put("move " one "->" other " on Tick when{X" i "<" first[i] "|F;X" i "<" second[i] "|T;};")
       put("stay " one " on Tick when{X" i "<" second[i] (mistaken ? "|F;" : "|F F;"))
       put("macro M" (c + k) % 64 (mistaken ? "|T;};" : "|T F;};")) }'
+}
+
+# tanks: nearly 1 MiB of a usual form, near the limits: 1,008 components of three states with an event and an input each, and 8,064
+# transitions.
+tanks() {
+  written 'put("specification Tanks;\nrange Level 0 .. 999;\n")
+    for (n = 0; n < 1008; n++) {
+      put("event Changed_" n ";\ninput Depth_" n " : Level = 0;\nreceive Measure_" n " (Depth_" n ") raise Changed_" n ";\n") }
+    put("state Tanks all {\n")
+    for (n = 0; n < 1008; n++) {
+      if (n % 63 == 0) put("state Hall_" n " all {\n")
+      put("# tank " n " is filled by a pump of its own, and emptied by that of its hall\n")
+      put("state Tank_" n " one {\n  default Low;\n  state Low;\n  state Middle;\n  state High;\n")
+      goes("Low", "Middle", "T", "F"); goes("Low", "High", "T", "T"); stays("Low", "F", "F")
+      goes("Middle", "Low", "F", "F"); goes("Middle", "High", "T", "T"); stays("Middle", "T", "F")
+      goes("High", "Low", "F .", ". F"); stays("High", "T", "T")
+      put(n % 63 == 62 ? "}\n}\n" : "}\n") }
+    put("}\n")' '
+    function goes(from, to, low, high) { put("    move " from " -> " to); guard(low, high) }
+    function stays(at, low, high) { put("    stay " at); guard(low, high) }
+    function guard(low, high) {
+      put(" on Changed_" n " when { Depth_" n " >= 300 | " low "; Depth_" n " >= 700 | " high "; };\n") }'
 }
 
 # states: 4,044 states, nearly all of them 14 deep.
