@@ -12,6 +12,7 @@ cd "$(dirname "$0")/.."
 turns=${1:-3}
 work=$(mktemp -d)
 trap 'rm -rf "$work"' EXIT
+source bench/stages.sh
 source bench/texts.sh
 
 # make NAME PROGRAM: a text, by an awk program.
@@ -98,49 +99,21 @@ make comparisons 'put("specification A; range R 0 .. 9; input X : R = 0; functio
 [ -n "${PROGRAM:-}" ] || ./rsml format examples/lamp.rsml > /dev/null || exit 1
 program=${PROGRAM:-crates/rsml_main/out/rsml_main}
 
-# least WORDS: the least milliseconds of the runs of the program with these words. Its output goes to a file.
-least() {
-  for _ in $(seq "$turns"); do
-    start=$(date +%s%N)
-    timeout 300 "$program" "$@" > "$work/output" || [ $? -eq 1 ] || return 1
-    echo $(($(date +%s%N) - start))
-  done | sort -n | head -n 1 | awk '{ printf "%.2f", $1 / 1e6 }'
-}
-
-# shares FILE: the shares of the stages, in percent, by the instructions of functions with all that they call.
-shares() {
-  awk '
-    function count(name) { return name in of ? of[name] : 0 }
-    /PROGRAM TOTALS/ { gsub(",", "", $1); whole = $1; next }
-    whole && match($0, /:[a-z_:A-Z]+ \[/) { name = substr($0, RSTART + 1, RLENGTH - 3); gsub(",", "", $1); if (!(name in of)) of[name] = $1 }
-    END {
-      part["reading"] = count("rsml::texts::read_text"); part["rules"] = count("rsml_rules::checking::judge")
-      part["machine"] = count("elaborate::machine::elaborate"); part["diagrams"] = count("guard_encode::encoder::Encoder::new")
-      part["groups"] = count("analysis::analysing::with_machine") - part["diagrams"]
-      split("reading rules machine diagrams groups", names, " ")
-      for (n = 1; n <= 5; n++) printf " %7.0f%%", 100 * part[names[n]] / whole
-    }' "$1"
-}
-
-with_shares=
-if [ "${SHARES:-}" != no ] && command -v valgrind > /dev/null; then with_shares=1; fi
+stages="reading rules machine diagrams groups"
+heading=
+if with_shares; then heading="  reading    rules  machine diagrams   groups"; fi
 format='%-13s %8s %7s %8s %9s %9s %7s %7s%s\n'
 # shellcheck disable=SC2059
-printf "$format" specification bytes groups findings format check ratio MB "${with_shares:+  reading    rules  machine diagrams   groups}"
+printf "$format" specification bytes groups findings format check ratio MB "$heading"
 while read -r name; do
   reading=$(least format "$work/$name")
   check=$(least check "$work/$name")
   groups=$(awk '$1 == "groups" { print $2; exit }' "$work/output")
   [ -n "$groups" ] || { echo "$name: $(head -n 1 "$work/output")"; exit 1; }
   findings=$(grep -cE '^(none|two) ' "$work/output" || true)
-  /usr/bin/time -o "$work/memory" -f %M "$program" check "$work/$name" > /dev/null || true
-  shares=
-  if [ -n "$with_shares" ] && awk -v t="$check" 'BEGIN { exit !(t < 2000) }'; then
-    valgrind --tool=callgrind --callgrind-out-file="$work/counts" "$program" check "$work/$name" > /dev/null 2>&1 || true
-    callgrind_annotate --inclusive=yes --threshold=100 "$work/counts" > "$work/counted" 2> /dev/null
-    shares=$(shares "$work/counted")
-  fi
+  told=
+  if with_shares && awk -v t="$check" 'BEGIN { exit !(t < 2000) }'; then told=$(shares "$stages" check "$work/$name"); fi
   # shellcheck disable=SC2059
   printf "$format" "$name" "$(stat -c %s "$work/$name")" "$groups" "$findings" "$reading" "$check" \
-    "$(awk -v r="$reading" -v c="$check" 'BEGIN { printf "%.1f", c / r }')" "$(tail -n 1 "$work/memory" | awk '{ printf "%.0f", $1 / 1024 }')" "$shares"
+    "$(awk -v r="$reading" -v c="$check" 'BEGIN { printf "%.1f", c / r }')" "$(megabytes check "$work/$name")" "$told"
 done < "$work/names"

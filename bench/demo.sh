@@ -10,46 +10,17 @@ cd "$(dirname "$0")/.."
 turns=${1:-3}
 work=$(mktemp -d)
 trap 'rm -rf "$work"' EXIT
+source bench/stages.sh
 
 [ -n "${PROGRAM:-}" ] || ./rsml demo 1 > /dev/null || exit 1
 program=${PROGRAM:-crates/rsml_main/out/rsml_main}
 
-# least UNITS: the least milliseconds of the runs of `demo` with so many units.
-least() {
-  for _ in $(seq "$turns"); do
-    start=$(date +%s%N)
-    "$program" demo "$1" > "$work/output"
-    echo $(($(date +%s%N) - start))
-  done | sort -n | head -n 1 | awk '{ printf "%.2f", $1 / 1e6 }'
-}
-
-# shares FILE: the shares of the stages, in percent, by the instructions of functions with all that they call.
-shares() {
-  awk '
-    function count(name) { return name in of ? of[name] : 0 }
-    /PROGRAM TOTALS/ { gsub(",", "", $1); whole = $1; next }
-    whole && match($0, /:[a-z_:A-Z]+ \[/) { name = substr($0, RSTART + 1, RLENGTH - 3); gsub(",", "", $1); if (!(name in of)) of[name] = $1 }
-    END {
-      part["reading"] = count("rsml::texts::read_text"); part["rules"] = count("rsml_rules::checking::judge")
-      part["machine"] = count("elaborate::machine::elaborate"); part["diagrams"] = count("guard_encode::encoder::Encoder::new")
-      part["groups"] = count("analysis::analysing::with_machine") - part["diagrams"]
-      part["run"] = count("run_counts::counting::count_run")
-      split("reading rules machine diagrams groups run", names, " ")
-      for (n = 1; n <= 6; n++) printf " %7.0f%%", 100 * part[names[n]] / whole
-    }' "$1"
-}
-
-with_shares=
-if [ "${SHARES:-}" != no ] && command -v valgrind > /dev/null; then with_shares=1; fi
-printf '%-8s %9s %7s%s\n' units ms MB "${with_shares:+  reading    rules  machine diagrams   groups      run}"
+stages="reading rules machine diagrams groups run"
+heading=
+if with_shares; then heading="  reading    rules  machine diagrams   groups      run"; fi
+printf '%-8s %9s %7s%s\n' units ms MB "$heading"
 for units in 1 8 40 64; do
-  taken=$(least "$units")
-  /usr/bin/time -o "$work/memory" -f %M "$program" demo "$units" > /dev/null
   told=
-  if [ -n "$with_shares" ]; then
-    valgrind --tool=callgrind --callgrind-out-file="$work/counts" "$program" demo "$units" > /dev/null 2>&1
-    callgrind_annotate --inclusive=yes --threshold=100 "$work/counts" > "$work/counted" 2> /dev/null
-    told=$(shares "$work/counted")
-  fi
-  printf '%-8s %9s %7s%s\n' "$units" "$taken" "$(tail -n 1 "$work/memory" | awk '{ printf "%.0f", $1 / 1024 }')" "$told"
+  if with_shares; then told=$(shares "$stages" demo "$units"); fi
+  printf '%-8s %9s %7s%s\n' "$units" "$(least demo "$units")" "$(megabytes demo "$units")" "$told"
 done
