@@ -26,7 +26,7 @@ script == "phrases" && $NF ~ /^[0-9.]+$/ {
 }
 script == "machine" && NF == 14 {
   row($1, $9 " ms", $10 " ms", $11, "3.00")
-  row($1 ", memory by its text", $12 " KB", sprintf("%.0f KB", $2 / 1024), $13, "100")
+  row($1 ", memory by its text", ($12 > 0 ? $12 : 0) " KB", sprintf("%.0f KB", $2 / 1024), $12 > 0 ? $13 : "0.0", "100")
 }
 script == "chains" && NR > 1 {
   if (NF == 5) row($1, $4 " ms", "-", "-", "5000 ms")
@@ -52,8 +52,8 @@ script == "tables" && $(NF - 1) == "us" {
   else row($0, lanes[/counts/] " us", time " us", sprintf("%.2f", lanes[/counts/] / time), "0.33")
 }
 script == "guards" && NF == 11 && $2 ~ /^[0-9]/ {
-  row($1 ", z3", with("ms", $5), with("ms", $7), $8, $7 == "-" ? "-" : "1.00")
-  row($1 ", BuDDy", with("ms", $5), with("ms", $9), $10, $9 == "-" ? "-" : "1.00")
+  row($1 ", z3", with("ms", $5), with("ms", $7), $8, "-")
+  if ($9 != "-") row($1 ", BuDDy", with("ms", $5), with("ms", $9), $10, "-")
 }
 script == "check" && NF == 8 && $2 ~ /^[0-9]+$/ {
   sums = $1 ~ /^(tcas|intruders|mistaken|hub|hub_mistaken)$/
