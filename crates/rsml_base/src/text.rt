@@ -10,10 +10,12 @@ use std::alloc::Global;
 use std::hash::{Hash, Hasher};
 use std::marker::Model;
 
-/// The bytes of a name. Contracts see them as a list.
+/// The bytes of a name, and the offset at which they stood in the text that it was read from. Contracts
+/// see the bytes, as a list, and say nothing of the offset.
 #[derive(Debug, Drop)]
 pub struct Text {
     bytes: Vec<u8>,
+    at: u32,
 }
 
 impl Model for Text {
@@ -25,13 +27,31 @@ impl Model for Text {
 }
 
 impl Text {
-    /// A copy of the bytes.
+    /// A copy of the bytes, of a name that was not read. Its offset is 0.
     pub fn new(alloc: Global, bytes: &[u8]) -> Result<Text, NoMemory>
         ensures { IfOk result (λ t. t ≡ bytes.now) }
     {
-        Ok(Text {
-            bytes: Vec::from_slice(alloc, bytes)?,
-        })
+        Text::placed(alloc, bytes, 0)
+    }
+
+    /// A copy of the bytes, which stood at this offset.
+    pub fn placed(alloc: Global, bytes: &[u8], at: u32) -> Result<Text, NoMemory>
+        ensures { IfOk result (λ t. t ≡ bytes.now) }
+    {
+        let bytes = Vec::from_slice(alloc, bytes)?;
+        Ok(Text { bytes, at })
+    }
+
+    /// A copy of the name, with its offset.
+    pub fn copy(&self, alloc: Global) -> Result<Text, NoMemory>
+        ensures { IfOk result (λ t. t ≡ self.now) }
+    {
+        Text::placed(alloc, self.bytes(), self.at)
+    }
+
+    /// The offset, in bytes from 0.
+    pub fn at(&self) -> u32 {
+        self.at
     }
 
     pub fn bytes(&self) -> &[u8]

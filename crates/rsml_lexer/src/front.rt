@@ -18,14 +18,14 @@ pub(crate) struct Taken {
     pub(crate) len: usize,
 }
 
-/// The reserved word or the name that is written so.
+/// The reserved word or the name that is written so, at an offset.
 #[tactic(auto, unfolding(rsml_syntax::specs::helpers::Scanning::named))]
-fn named(alloc: Global, edition: Edition, name: &[u8]) -> Result<Token, NoMemory>
+fn named(alloc: Global, edition: Edition, name: &[u8], at: u32) -> Result<Token, NoMemory>
     ensures { IfOk result (λ t. t ≡ scanning.named edition name.now) }
 {
     match word_of(name) {
         Some(word) if is_reserved(edition, word) => Ok(Token::Word(word)),
-        _ => Ok(Token::Name(Text::new(alloc, name)?)),
+        _ => Ok(Token::Name(Text::placed(alloc, name, at)?)),
     }
 }
 
@@ -42,7 +42,7 @@ pub(crate) fn token_at(
     let bytes = text.as_bytes();
     if begins_name(text) {
         let len = name_len(text);
-        let token = named(alloc, edition, &bytes[..len])?;
+        let token = named(alloc, edition, &bytes[..len], at)?;
         return Ok(Taken { token, len });
     }
     let len = digits_len(bytes);

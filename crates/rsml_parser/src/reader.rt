@@ -202,7 +202,7 @@ impl<'a> Reader<'a> {
     {
         match self.next_name() {
             Some(found) => {
-                let name = Text::new(alloc, found.bytes())?;
+                let name = found.copy(alloc)?;
                 self.skip();
                 Ok(name)
             }

@@ -35,7 +35,7 @@ fn copied(alloc: Global, token: &Token) -> Result<Token, NoMemory>
 {
     Ok(match token {
         Token::Word(word) => Token::Word(*word),
-        Token::Name(name) => Token::Name(Text::new(alloc, name.bytes())?),
+        Token::Name(name) => Token::Name(name.copy(alloc)?),
         Token::Number(number) => Token::Number(*number),
         Token::Mark(mark) => Token::Mark(*mark),
     })
