@@ -16,4 +16,4 @@ mod transitions;
 mod uses;
 mod worst;
 
-pub use lowest::{Breach, lowest_breach};
+pub use lowest::{Breach, first_breaches, lowest_breach};

@@ -5,5 +5,6 @@ mod breaches;
 mod checking;
 mod error;
 
+pub use breaches::{Breach, first_breaches};
 pub use checking::check_rules;
 pub use error::RuleError;

@@ -88,7 +88,7 @@ fn found(alloc: Global, worst: &Worst<'_>) -> Result<Option<Breach>, NoMemory>
     match worst.found() {
         Some((rule, name)) => Ok(Some(Breach {
             rule,
-            name: Text::new(alloc, name.bytes())?,
+            name: name.copy(alloc)?,
         })),
         None => Ok(None),
     }
@@ -108,4 +108,23 @@ pub fn lowest_breach<'a>(
     let mut worst = Worst::new();
     spec_judged(alloc, &setting, spec, &mut worst)?;
     found(alloc, &worst)
+}
+
+/// The first breaches of all rules, at most 64, in the order in which the rules are judged. The only error is out of memory. Nothing is
+/// claimed of which they are.
+pub fn first_breaches(alloc: Global, spec: &Spec) -> Result<Vec<Breach>, NoMemory> {
+    let tables = NameTables::new(alloc, spec)?;
+    let setting = Setting::new(alloc, &tables)?;
+    let mut worst = Worst::new();
+    spec_judged(alloc, &setting, spec, &mut worst)?;
+    let mut breaches = Vec::new(alloc);
+    for breach in worst.first() {
+        if let Some((rule, name)) = breach {
+            breaches.push(Breach {
+                rule: *rule,
+                name: name.copy(alloc)?,
+            })?;
+        }
+    }
+    Ok(breaches)
 }
