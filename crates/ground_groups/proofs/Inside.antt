@@ -34,7 +34,7 @@ of_filter t (y ∷ xs) x m = by_test (t y) refl m (of_filter t xs x)
     by_test true e (inr n) f = let r = f n in (inr r.0, r.1)
     by_test false e n f = let r = f n in (inr r.0, r.1)
 
-in_filter : {A : Type 0} (t : A → Bool) (xs : List A) (x : A) → IsOne x xs → t x ≡ true → IsOne x (filter t xs)
+pub in_filter : {A : Type 0} (t : A → Bool) (xs : List A) (x : A) → IsOne x xs → t x ≡ true → IsOne x (filter t xs)
 in_filter t [] x m h = absurd m
 in_filter t (y ∷ xs) x (inl e) h = subst (λ b. IsOne x (cond b (y ∷ filter t xs) (filter t xs))) (sym h ∙ ap t e) (inl e)
 in_filter t (y ∷ xs) x (inr m) h = by_test (t y) (in_filter t xs x m h)

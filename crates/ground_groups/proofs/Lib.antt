@@ -1,3 +1,4 @@
+mod Events
 mod FunctionGroups
 mod GroupLemmas
 mod Inside

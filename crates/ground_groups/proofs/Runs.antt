@@ -1,5 +1,8 @@
 -- The keys of the states inside a state stand together, behind its own.
-use Rattle.std.proofs.Common.{◌≡◌, ℕ, zero, suc, ◌+◌, ◌-◌, ◌<◌, ◌≤◌, Bool, true, false, cond, ◌&&◌, ◌||◌, List, [], ◌∷◌, ◌++◌, map, filter, length, inl, inr, refl, sym, ap, ◌∙◌, subst, get_or, take, drop, nat_eq, nat_le, nat_lt, append-nil, arith}
+use Rattle.std.proofs.Common.{◌≡◌, ℕ, zero, suc, ◌+◌, ◌-◌, ◌<◌, ◌≤◌, Bool, true, false, cond, ◌&&◌, ◌||◌, List, [], ◌∷◌, ◌++◌, map, filter, length, inl, inr, refl, sym, ap, ◌∙◌, subst, get_or, take, drop, nat_eq, nat_le, nat_lt, append-nil, arith, leb, leb-true}
+use Rattle.std.specs.List.{AllWithin}
+use Rattle.std.specs.List.Sorted.{IsNonDecreasingBy, IsPartitionPoint}
+use Rattle.std.proofs.lemmas.Bool.{leb-false}
 use Rattle.std.proofs.lemmas.Bool.Decides.{nat_tests}
 use Rattle.std.proofs.lemmas.List.{take_more, take_all, map-append, length-drop}
 use Rattle.std.proofs.lemmas.List.Elements.{filter-append}
@@ -167,28 +170,36 @@ ended s checked key other xs i k t b r l e off = ap (map (λ q. q.owner)) (filte
 
 -- Where the keys of the states behind one begin.
 
--- at the first key of a later state
-pub past_found : (keys : List Key) (state i : ℕ) (key : Key) → AreRising keys → Each (λ q. q.owner ≤ state) (take i keys) → i < length keys → key ≡ get_or keys i key → state < key.owner → IsPast keys state i
-past_found keys state i key r h l e m = record {
-  within = omega (arith, l);
-  low = h;
-  high = subst (Each (λ q. state < q.owner)) (sym rest) (m, each_so (IsBefore key) (λ q. state < q.owner) (drop (i + 1) keys) (λ q b. let n = at_most key q b in omega (arith, m, n)) rising.0);
+-- a later key is of no lower state
+pub owners_rise : (keys : List Key) → AreRising keys → IsNonDecreasingBy (λ q. q.owner) keys
+owners_rise [] r i j d l m = absurd (omega (arith, m))
+owners_rise (x ∷ xs) r zero zero d l m = omega arith
+owners_rise (x ∷ xs) r zero (suc j) d l m =
+    at_most x (get_or xs j d) (each_one (IsBefore x) xs (get_or xs j d) r.0 (item_one xs j d (omega (arith, m))))
+owners_rise (x ∷ xs) r (suc i) zero d l m = absurd (omega (arith, l))
+owners_rise (x ∷ xs) r (suc i) (suc j) d l m = owners_rise xs r.1 i j d (omega (arith, l)) (omega (arith, m))
+
+each_take : {A : Type 0} (P : A → Type 0) (xs : List A) (n : ℕ) → AllWithin P xs 0 n → Each P (take n xs)
+each_take P xs zero f = tt
+each_take P [] (suc n) f = tt
+each_take P (x ∷ xs) (suc n) f = (f 0 x (omega arith) (omega arith), each_take P xs n (λ k d l m. f (suc k) d (omega arith) (omega (arith, m))))
+
+each_from : {A : Type 0} (P : A → Type 0) (xs : List A) (n : ℕ) → AllWithin P xs n (length xs) → Each P (drop n xs)
+each_from P [] zero f = tt
+each_from P (x ∷ xs) zero f = (f 0 x (omega arith) (omega arith), each_from P xs zero (λ k d l m. f (suc k) d (omega arith) (omega (arith, m))))
+each_from P [] (suc n) f = tt
+each_from P (x ∷ xs) (suc n) f = each_from P xs n (λ k d l m. f (suc k) d (omega (arith, l)) (omega (arith, m)))
+
+-- what a search by owner gives
+pub past_is : (keys : List Key) (state place : ℕ) → place ≤ length keys
+    → IsPartitionPoint (λ q. leb q.owner state ≡ true) (λ q. leb q.owner state ≡ false) keys place → IsPast keys state place
+past_is keys state place l p = record {
+  within = l;
+  low = each_so (λ q. leb q.owner state ≡ true) (λ q. q.owner ≤ state) (take place keys) (λ q h. leb-true q.owner state h)
+      (each_take (λ q. leb q.owner state ≡ true) keys place p.0);
+  high = each_so (λ q. leb q.owner state ≡ false) (λ q. state < q.owner) (drop place keys) (λ q h. leb-false q.owner state h)
+      (each_from (λ q. leb q.owner state ≡ false) keys place p.1);
 }
-  where
-    rest : drop i keys ≡ key ∷ drop (i + 1) keys
-    rest = drop_at keys i key l e
-
-    rising : AreRising (key ∷ drop (i + 1) keys)
-    rising = subst AreRising rest (rising_drop i keys r)
-
--- no key behind is of an earlier state than those passed
-abbrev pub ArePassed : List Key → ℕ → ℕ → Type 0
-ArePassed keys i past = Each (λ q. Each (λ x. x.owner ≤ q.owner) (take past keys)) (drop i keys)
-
-pub passed_on : (keys : List Key) (i past : ℕ) (key : Key) → AreRising keys → i < length keys → key ≡ get_or keys i key → IsPast keys key.owner past → ArePassed keys (i + 1) past
-passed_on keys i past key r l e p = each_so (IsBefore key) (λ q. Each (λ x. x.owner ≤ q.owner) (take past keys)) (drop (i + 1) keys)
-    (λ q b. each_so (λ x. x.owner ≤ key.owner) (λ x. x.owner ≤ q.owner) (take past keys) (λ x m. let n = at_most key q b in omega (arith, m, n)) p.low)
-    (subst AreRising (drop_at keys i key l e) (rising_drop i keys r)).0
 
 -- The keys from a place on.
 

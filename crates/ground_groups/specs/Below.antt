@@ -1,5 +1,5 @@
 -- States inside others, by keys.
-use Rattle.std.specs.Prelude.{ℕ, ◌<◌, ◌≤◌, Bool, ◌&&◌, List, map, filter, length, take, drop, nat_eq, nat_lt}
+use Rattle.std.specs.Prelude.{ℕ, ◌<◌, ◌≤◌, Bool, ◌&&◌, ◌≡◌, List, [], map, filter, length, take, drop, slice_index_or, nat_eq, nat_lt}
 use Rattle.rsml_syntax.specs.declared.syntax.Spec.{Spec}
 use Rattle.rsml_meaning.specs.Words.{Each, on_one_line}
 use Rattle.rsml_meaning.specs.Instances.{states}
@@ -17,6 +17,14 @@ is_inside s key other = nat_eq other.event key.event && (nat_lt key.owner other.
 -- the states of those keys
 abbrev pub below_of : Spec → List Key → Key → List ℕ
 below_of s keys key = map (λ q. q.owner) (filter (is_inside s key) keys)
+
+-- the keys on the event
+abbrev pub on_event : ℕ → List Key → List Key
+on_event event keys = filter (λ q. nat_eq q.event event) keys
+
+-- the list at the place of each event has the keys on it
+abbrev pub AreByEvent : List Key → List (List Key) → Type 0
+AreByEvent keys lists = (event : ℕ) → slice_index_or lists event [] ≡ on_event event keys
 
 -- The place where the keys of the states behind one begin.
 pub record IsPast (keys : List Key) (state place : ℕ) : Type 0 where

@@ -1,11 +1,13 @@
-use Rattle.std.proofs.Common.{slice_index_or, arith}
-use Rattle.ground_groups.proofs.Rising.{blank}
-use Rattle.ground_groups.proofs.Runs.{item_same, past_found}
+use Rattle.std.proofs.Common.{leb, rules}
+use Rattle.std.proofs.lemmas.List.Sorted.{IsPartitionPoint-from_clause, IsPartitionedBy-leb}
+use Rattle.ground_groups.proofs.Runs.{owners_rise, past_is}
 use Rattle.ground_groups.proofs.below.place_past.Goals as goal
 
-pub returns-then-keys-place : goal.returns-then-keys-place
-returns-then-keys-place c =
+pub returns : goal.returns
+returns c =
     let keys = c.args.keys.now in
-    let i = c.loop-place.place in
-    let l = c.loop-place-test.true in
-    past_found keys c.args.state i (slice_index_or keys i blank) c.requires.rising c.loop-place.invariant (omega (arith, l)) (item_same keys i blank (omega (arith, l))) c.if-keys-place.true
+    let state = c.args.state in
+    let parted = IsPartitionedBy-leb (λ q. q.owner) keys state (owners_rise keys c.requires) in
+    let point = IsPartitionPoint-from_clause (λ q. leb q.owner state) _ _ c.partition_point.ensures.partitioned parted
+    (λ a r q k. search rules) in
+    past_is keys state c.partition_point.result c.partition_point.ensures.bound point
