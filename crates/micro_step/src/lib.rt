@@ -7,6 +7,7 @@ mod moves;
 mod raising;
 mod rising;
 mod scratch;
+mod seen;
 mod sending;
 mod steps;
 mod sums;

@@ -8,34 +8,47 @@ ghost use Rattle.micro_step.specs.Micros.{AreEvents};
 ghost use Rattle.micro_step.specs.Numbers.{taken_at};
 ghost use Rattle.micro_step.specs.Places.{passes};
 ghost use Rattle.micro_step.specs.Rising.{AreRising, among};
+ghost use Rattle.micro_step.specs.Seen.{IsSeen};
 
 use crate::asking::ask;
 use crate::events::Events;
 use crate::rising::Rising;
+use crate::seen::Seen;
 use elaborate::Machine;
 use macros::Memo;
 use rsml_syntax::World;
 
 /// Whether the source of a transition is active.
-fn is_active(machine: &Machine<'_>, world: &World, transition: u32) -> bool
+fn is_active(machine: &Machine<'_>, world: &World, seen: &mut Seen, transition: u32) -> bool
     requires world { IsWorld machine.now.base.spec world.now }
     requires transition { transition < length machine.now.transitions }
-    ensures { result ≡ passes (λ x. truths.is_active machine.now.base.spec world.now x.source) machine.now.transitions transition }
+    requires seen { IsSeen machine.now.base.spec world.now seen.old }
+    ensures active { result ≡ passes (λ x. truths.is_active machine.now.base.spec world.now x.source) machine.now.transitions transition }
+    ensures seen { IsSeen machine.now.base.spec world.now seen.new }
 {
     machine.law();
     let source = machine.transition(transition).source;
-    machine.tree().active(world.choices.as_slice(), source)
+    seen.is_active(machine, world, source)
 }
 
 /// Whether a transition is enabled: its source is active, and its guard is true.
-fn is_enabled(machine: &Machine<'_>, world: &World, memo: &mut Memo, transition: u32) -> bool
+fn is_enabled(
+    machine: &Machine<'_>,
+    world: &World,
+    memo: &mut Memo,
+    seen: &mut Seen,
+    transition: u32,
+) -> bool
     requires world { IsWorld machine.now.base.spec world.now }
     requires knows { Knows machine.now.base world.now memo.old }
     requires transition { transition < length machine.now.transitions }
+    requires seen { IsSeen machine.now.base.spec world.now seen.old }
     ensures enabled { result ≡ passes (spec.is_enabled machine.now world.now) machine.now.transitions transition }
     ensures knows { Knows machine.now.base world.now memo.new }
+    ensures seen { IsSeen machine.now.base.spec world.now seen.new }
 {
-    is_active(machine, world, transition) && ask(machine, world, memo, machine.guard(transition))
+    is_active(machine, world, seen, transition)
+        && ask(machine, world, memo, machine.guard(transition))
 }
 
 /// Takes a transition if it is enabled.
@@ -43,12 +56,14 @@ fn take_one(
     machine: &Machine<'_>,
     world: &World,
     memo: &mut Memo,
+    seen: &mut Seen,
     transition: u32,
     taken: &mut Rising,
 )
     requires world { IsWorld machine.now.base.spec world.now }
     requires knows { Knows machine.now.base world.now memo.old }
     requires transition { transition < length machine.now.transitions }
+    requires seen { IsSeen machine.now.base.spec world.now seen.old }
     requires bound { taken.old.below ≡ length machine.now.transitions }
     requires rising { AreRising taken.old.items }
     ensures among { (q : ℕ) → among taken.new.items q ≡ (among taken.old.items q
@@ -56,8 +71,9 @@ fn take_one(
     ensures rising { AreRising taken.new.items }
     ensures bound { taken.new.below ≡ length machine.now.transitions }
     ensures knows { Knows machine.now.base world.now memo.new }
+    ensures seen { IsSeen machine.now.base.spec world.now seen.new }
 {
-    if !is_enabled(machine, world, memo, transition) {
+    if !is_enabled(machine, world, memo, seen, transition) {
         return;
     }
     taken.put(transition);
@@ -77,8 +93,9 @@ fn take_on(machine: &Machine<'_>, world: &World, memo: &mut Memo, event: u32, ta
     ensures knows { Knows machine.now.base world.now memo.new }
 {
     let there = machine.transitions_on(event);
+    let mut seen = Seen::new();
     for transition in there {
-        take_one(machine, world, memo, *transition, taken);
+        take_one(machine, world, memo, &mut seen, *transition, taken);
     }
 }
 

@@ -1,4 +1,5 @@
-use Rattle.std.proofs.Common.{◌==◌, get_or, refl, ◌∙◌}
+use Rattle.std.proofs.Common.{◌≡◌, ◌==◌, ℕ, Bool, Option, IfSome, get_or, refl, sym, subst, ◌∙◌}
+use Rattle.rsml_ground.specs.Truths.{is_active as active_in}
 use Rattle.elaborate.specs.Enabled.{is_enabled}
 use Rattle.micro_step.specs.Places.{passes}
 use Rattle.micro_step.specs.Rising.{among}
@@ -11,6 +12,7 @@ loop-transition-init c = record {
   bound = c.requires.bound;
   rising = c.requires.rising;
   knows = c.requires.knows;
+  seen = subst (λ (last : Option (ℕ × Bool)). IfSome last (λ known. known.1 ≡ active_in c.args.machine.now.base.spec c.args.world.now known.0)) (sym c.new-seen.ensures) tt;
   gathered = gather_none (among c.args.taken.now.items) (passes (is_enabled c.args.machine.now c.args.world.now) c.args.machine.now.transitions) c.transitions_on-there.result.now c.args.taken.now.items (λ q. refl);
 }
 
@@ -29,6 +31,7 @@ loop-transition-preserved c =
       bound = c.take_one.ensures.bound;
       rising = c.take_one.ensures.rising;
       knows = c.take_one.ensures.knows;
+      seen = c.take_one.ensures.seen;
       gathered = gather_more (among c.args.taken.now.items) (passes (is_enabled m c.args.world.now) m.transitions) ks c.loop-transition.taken.items c.take_one.new.taken.items c.loop-transition.transition-index
           (get_or ks c.loop-transition.transition-index 0) c.loop-transition-test.true refl c.take_one.ensures.among c.loop-transition.invariant.gathered;
     }
