@@ -12,3 +12,4 @@ pub mod ReadLemmas
 pub mod MarkLemmas
 pub mod SpellingLemmas
 pub mod FindLemmas
+pub mod HoldingLemmas

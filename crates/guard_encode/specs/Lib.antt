@@ -3,3 +3,4 @@ pub mod Encoding
 pub mod Marking
 pub mod Reading
 pub mod Spelling
+pub mod Holding

@@ -99,6 +99,14 @@ impl<'m, 'a> Encoder<'m, 'a> {
         self.machine
     }
 
+    /// How many nodes the diagrams have, the two constants counted.
+    pub fn node_count(&self) -> usize
+        ensures { result ≡ length self.now.diagram.nodes }
+    {
+        let _ = &self.levels;
+        self.arena.node_count()
+    }
+
     /// Where a state is active.
     pub fn active(&self, node: u32) -> Ref
         requires { node < length (states self.now.machine.base.spec) }

@@ -3,10 +3,12 @@
 
 mod cases;
 mod combine;
+mod comparing;
 mod decided;
 mod encoder;
 mod fixing;
 mod groups;
+mod holding;
 mod of_cell;
 mod phrase;
 mod phrases;
