@@ -1,21 +1,13 @@
 -- What an encoder tells of the group at a place.
 use Rattle.std.proofs.Common.{◌≡◌, ℕ, ◌<◌, ◌≤◌, Bool, ◌&&◌, not, length, Some, inl, inr, slice_get, refl, sym, subst, arith}
 use Rattle.std.proofs.lemmas.Option.{slice_get_cases}
-use Rattle.rsml_syntax.specs.declared.syntax.Spec.{Spec}
 use Rattle.rsml_syntax.specs.declared.world.World.{World}
 use Rattle.rsml_meaning.specs.Groups.{Group, groups}
 use Rattle.bdd_core.specs.Diagram.{IsRef}
 use Rattle.elaborate.specs.Machine.{GroundMachine}
 use Rattle.guard_encode.specs.Encoding.{Encoding, Keeps, Tells, TellsExactly}
 use Rattle.guard_encode.proofs.StepLemmas.{told_on}
-
--- what can be asked of a group in a world
-abbrev pub Question : Type 0
-Question = Spec → Group → World → Bool
-
--- r tells in which worlds this is true of the group at a place
-abbrev pub TellsAt : Encoding → ℕ → Question → ℕ → Type 0
-TellsAt e group truth r = (g : Group) → slice_get (groups e.machine.base.spec) group ≡ Some g → Tells e (truth e.machine.base.spec g) r
+use Rattle.failing_worlds.specs.Counts.{Question, TellsAt}
 
 -- without a call all is as it was
 pub no_calls : (e : Encoding) → Keeps e e

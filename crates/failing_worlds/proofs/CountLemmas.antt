@@ -34,6 +34,10 @@ two_more p xs n x at = above_one (p x) (passing p xs n) ∙ ap (λ k. nat_lt 1 k
 pub all_passing : {A : Type 0} (p : A → Bool) (xs : List A) (n : ℕ) → length xs ≤ n → passing p xs n ≡ length (filter p xs)
 all_passing p xs n past = ap (λ ys. length (filter p ys)) (take_all n xs past)
 
+-- none is not more than k
+pub none_above : (k : ℕ) → false ≡ nat_lt k 0
+none_above k = grind (arith, nat_tests)
+
 -- none is not one or more
 pub none_is : (k : ℕ) → not (nat_lt 0 k) ≡ (k == 0)
 none_is k = grind (arith, nat_tests)

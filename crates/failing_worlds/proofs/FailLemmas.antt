@@ -5,10 +5,10 @@ use Rattle.rsml_meaning.specs.Truth.{view}
 use Rattle.rsml_meaning.specs.Groups.{meets, enabled_count}
 use Rattle.guard_encode.specs.Encoding.{Encoding, Keeps, Tells}
 use Rattle.guard_encode.proofs.StepLemmas.{keeps_on}
+use Rattle.failing_worlds.specs.Counts.{Question, TellsAt, has_more}
 use Rattle.failing_worlds.specs.Failing.{enables_none, enables_two}
 use Rattle.failing_worlds.proofs.CountLemmas.{none_is}
-use Rattle.failing_worlds.proofs.AtLemmas.{Question, TellsAt, and_at, not_at, tells_on, told_as}
-use Rattle.failing_worlds.proofs.MemberLemmas.{has_more}
+use Rattle.failing_worlds.proofs.AtLemmas.{and_at, not_at, tells_on, told_as}
 
 -- whether the condition holds
 abbrev pub holds : Question

@@ -5,7 +5,7 @@ pub mod OrderLemmas
 pub mod LineLemmas
 pub mod CountLemmas
 pub mod AtLemmas
-pub mod MemberLemmas
+pub mod KeptLemmas
 pub mod CountsLemmas
-pub mod TurnLemmas
+pub mod MemberLemmas
 pub mod FailLemmas

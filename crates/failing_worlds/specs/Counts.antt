@@ -1,50 +1,55 @@
--- What has been counted of the members of groups.
-use Rattle.std.specs.Prelude.{◌≡◌, ℕ, ◌+◌, ◌<◌, ⊤, Bool, Option, Some, None, length, take, filter, nat_lt, slice_get, slice_set, unwrap_or}
+-- What has been told of the members of groups.
+use Rattle.std.specs.Prelude.{◌≡◌, ℕ, ◌+◌, ◌≤◌, Bool, Some, length, take, filter, nat_lt, slice_get}
 use Rattle.rsml_syntax.specs.declared.syntax.Spec.{Spec}
 use Rattle.rsml_syntax.specs.declared.world.World.{World}
 use Rattle.rsml_meaning.specs.Truth.{view}
-use Rattle.rsml_meaning.specs.Transitions.{transitions}
-use Rattle.rsml_meaning.specs.Groups.{Group, groups, members, enabled}
+use Rattle.rsml_meaning.specs.Groups.{Group, groups, members, enabled, enabled_count}
+use Rattle.rsml_meaning.specs.Groups as meaning_of
 use Rattle.ground_groups.specs.declared.group.Member.{Member}
-use Rattle.ground_groups.specs.declared.group.Member.TheVariants as member
-use Rattle.ground_groups.specs.Groups.{IsMemberAt}
+use Rattle.ground_groups.specs.Groups.{IsMemberAt, MemberIs}
 use Rattle.guard_encode.specs.Encoding.{Encoding, Tells}
-use Rattle.failing_worlds.specs.declared.counted.Count.{Count}
 use Rattle.failing_worlds.specs.declared.counts.Counts.{Counts}
+use Rattle.failing_worlds.specs.Kept.{AreKept}
+
+-- what can be asked of a group in a world
+abbrev pub Question : Type 0
+Question = Spec → Group → World → Bool
 
 -- whether more than k of the first n members are enabled
-abbrev pub more_than : ℕ → ℕ → Spec → Group → World → Bool
-more_than k n s g w = nat_lt k (length (filter (enabled (view s w)) (take n (members s g))))
+abbrev pub more_than : ℕ → ℕ → Question
+more_than k n = λ s g w. nat_lt k (length (filter (enabled (view s w)) (take n (members s g))))
 
--- Where one or more, and where two or more, of the first n members of a group are enabled.
-pub record IsPart (e : Encoding) (g : Group) (n : ℕ) (c : Count) : Type 0 where
-  pub some_is : Tells e (more_than 0 n e.machine.base.spec g) c.some
-  pub two_is : Tells e (more_than 1 n e.machine.base.spec g) c.two
+-- whether more than k of all members are
+abbrev pub has_more : ℕ → Question
+has_more k = λ s g w. nat_lt k (enabled_count s g (view s w))
 
--- of the group at a place
-abbrev pub IsPartAt : Encoding → ℕ → ℕ → Count → Type 0
-IsPartAt e group n c = (g : Group) → slice_get (groups e.machine.base.spec) group ≡ Some g → IsPart e g n c
+-- r tells in which worlds this is true of the group at a place
+abbrev pub TellsAt : Encoding → ℕ → Question → ℕ → Type 0
+TellsAt e group truth r = (g : Group) → slice_get (groups e.machine.base.spec) group ≡ Some g → Tells e (truth e.machine.base.spec g) r
 
--- of the members up to a transition, in each group that it is a member of
-abbrev pub IsUpTo : Encoding → ℕ → Count → Type 0
-IsUpTo e number c = (g : Group) (place : ℕ) → IsMemberAt e.machine.base.spec g place (member.Transition number) → IsPart e g (place + 1) c
+-- r tells where a member is enabled
+abbrev pub TellsMember : Encoding → Member → ℕ → Type 0
+TellsMember e x r = (m : meaning_of.Member) → MemberIs e.machine.base.spec m x → Tells e (λ w. enabled (view e.machine.base.spec w) m) r
 
--- There is a place for each transition, and what is kept there is right.
+-- r tells where more than k of the members up to one are enabled, in each group that it is a member of
+abbrev pub TellsUpTo : ℕ → Encoding → Member → ℕ → Type 0
+TellsUpTo k e x r = (g : Group) (place : ℕ) → IsMemberAt e.machine.base.spec g place x
+    → Tells e (more_than k (place + 1) e.machine.base.spec g) r
+
+-- What is kept is right: where a transition is enabled, and where one or more, and two or more, of the members up to it are.
 pub record AreCounts (e : Encoding) (counts : Counts) : Type 0 where
-  pub many : length counts.after.items ≡ length (transitions e.machine.base.spec)
-  pub each : (number : ℕ) (c : Count) → slice_get counts.after.items number ≡ Some (Some c) → IsUpTo e number c
+  pub enabled_is : AreKept e TellsMember counts.enabled
+  pub some_is : AreKept e (TellsUpTo 0) counts.some
+  pub two_is : AreKept e (TellsUpTo 1) counts.two
 
--- there is a place for the member, if it is a transition
-abbrev pub IsThere : Counts → Member → Type 0
-IsThere counts (member.Transition number) = number < length counts.after.items
-IsThere counts _ = ⊤
+-- the group at a place has so many members
+abbrev pub AreMembers : Encoding → ℕ → ℕ → Type 0
+AreMembers e group n = (g : Group) → slice_get (groups e.machine.base.spec) group ≡ Some g → n ≡ length (members e.machine.base.spec g)
 
--- what is known of the members up to one
-abbrev pub known_of : Counts → Member → Option Count
-known_of counts (member.Transition number) = unwrap_or (slice_get counts.after.items number) None
-known_of counts _ = None
+-- so many, or more
+abbrev pub HasMembers : Encoding → ℕ → ℕ → Type 0
+HasMembers e group n = (g : Group) → slice_get (groups e.machine.base.spec) group ≡ Some g → n ≤ length (members e.machine.base.spec g)
 
--- this has been kept of the members up to one, if it is a transition
-abbrev pub IsKept : Counts → Counts → Member → Count → Type 0
-IsKept old new (member.Transition number) c = new.after.items ≡ slice_set old.after.items number (Some c)
-IsKept old new _ c = new ≡ old
+-- the member at a place of the group
+abbrev pub IsNext : Encoding → ℕ → ℕ → Member → Type 0
+IsNext e group n x = (g : Group) → slice_get (groups e.machine.base.spec) group ≡ Some g → IsMemberAt e.machine.base.spec g n x

@@ -1,100 +1,153 @@
 //! How many members of a group are enabled.
-ghost use Rattle.std.specs.Prelude.{◌≡◌, ℕ, ◌+◌, ◌<◌, IfOk, Some, length, nat_lt, slice_get};
-ghost use Rattle.rsml_meaning.specs.Truth.{view};
-ghost use Rattle.rsml_meaning.specs.Groups.{Group, groups, enabled_count};
-ghost use Rattle.ground_groups.specs.Groups.{IsMemberAt};
+ghost use Rattle.std.specs.Prelude.{ℕ, ◌+◌, ◌<◌, ◌≤◌, IfOk, length};
+ghost use Rattle.rsml_meaning.specs.Groups.{groups};
 ghost use Rattle.bdd_core.specs.Diagram.{IsRef};
-ghost use Rattle.guard_encode.specs.Encoding.{IsMember, Keeps, Tells};
-ghost use Rattle.failing_worlds.specs.Counts.{AreCounts, IsPart, IsPartAt};
+ghost use Rattle.guard_encode.specs.Encoding.{IsMember, Keeps};
+ghost use Rattle.failing_worlds.specs.Kept.{AreKept};
+ghost use Rattle.failing_worlds.specs.Counts.{AreCounts, AreMembers, HasMembers, IsNext, TellsAt, TellsMember, TellsUpTo, has_more, more_than};
 
 use crate::counts::Counts;
+use crate::kept::Kept;
 use bdd_core::Ref;
 use ground_groups::Member;
 use guard_encode::Encoder;
 use rsml_base::NoMemory;
 
-/// Where one member of a group or more is enabled, and where two or more are.
-#[derive(Clone, Copy)]
-pub(crate) struct Count {
-    pub some: Ref,
-    pub two: Ref,
-}
-
-/// What has been counted of so many members, the first of a group.
+/// What is told of so many members, the first of a group.
 struct Part {
     members: u32,
-    counted: Count,
+    told: Ref,
 }
 
-/// Begins behind the last member up to which the count is known, and keeps what it counts.
-pub(crate) fn counted(
+/// Where one member of a group or more is enabled.
+pub(crate) fn some_of(
     encoder: &mut Encoder<'_, '_>,
     counts: &mut Counts,
     group: u32,
-) -> Result<Count, NoMemory>
+) -> Result<Ref, NoMemory>
     requires group { group < length (groups encoder.old.machine.base.spec) }
     requires counts { AreCounts encoder.old counts.old }
     ensures keeps { Keeps encoder.old encoder.new }
     ensures counts { AreCounts encoder.new counts.new }
-    ensures some { IfOk result (λ c. (g : Group) → slice_get (groups encoder.new.machine.base.spec) group ≡ Some g
-        → Tells encoder.new (λ w. nat_lt 0 (enabled_count encoder.new.machine.base.spec g (view encoder.new.machine.base.spec w))) c.some) }
-    ensures two { IfOk result (λ c. (g : Group) → slice_get (groups encoder.new.machine.base.spec) group ≡ Some g
-        → Tells encoder.new (λ w. nat_lt 1 (enabled_count encoder.new.machine.base.spec g (view encoder.new.machine.base.spec w))) c.two) }
+    ensures some { IfOk result (TellsAt encoder.new group (has_more 0)) }
+{
+    let count = members_of(encoder, group);
+    some_of_first(encoder, counts, group, count)
+}
+
+/// Where two members of a group or more are enabled. Begins behind the last up to which this is known, and keeps what it finds.
+pub(crate) fn two_of(
+    encoder: &mut Encoder<'_, '_>,
+    counts: &mut Counts,
+    group: u32,
+) -> Result<Ref, NoMemory>
+    requires group { group < length (groups encoder.old.machine.base.spec) }
+    requires counts { AreCounts encoder.old counts.old }
+    ensures keeps { Keeps encoder.old encoder.new }
+    ensures counts { AreCounts encoder.new counts.new }
+    ensures two { IfOk result (TellsAt encoder.new group (has_more 1)) }
 {
     let machine = encoder.machine();
     machine.law();
-    let groups = machine.groups();
-    let Part { members, counted } = known(encoder, counts, group);
-    let mut so_far = counted;
-    for place in members..groups.members(group) {
-        let member = groups.member(group, place);
-        so_far = with_member(encoder, &so_far, member)?;
-        counts.keep(member, &so_far);
+    let count = members_of(encoder, group);
+    let Part { members, told } = known(encoder, &counts.two, group, count);
+    let mut two = told;
+    let mut one = some_of_first(encoder, counts, group, members)?;
+    for place in members..count {
+        let member = member_at(encoder, group, place);
+        let enabled = enabled(encoder, counts, member)?;
+        two = encoder.ite(enabled, one, two)?;
+        one = encoder.or(one, enabled)?;
+        counts.some.keep(member, one);
+        counts.two.keep(member, two);
     }
-    Ok(so_far)
+    Ok(two)
 }
 
-/// The members up to the last that has a known count, or none of them.
-fn known(encoder: &Encoder<'_, '_>, counts: &Counts, group: u32) -> Part
-    requires group { group < length (groups encoder.now.machine.base.spec) }
-    requires counts { AreCounts encoder.now counts.now }
-    ensures { IsPartAt encoder.now group result.members result.counted }
+/// Where one or more of so many members, the first of a group, are enabled. Begins behind the last up to which this is known, and
+/// keeps what it finds.
+fn some_of_first(
+    encoder: &mut Encoder<'_, '_>,
+    counts: &mut Counts,
+    group: u32,
+    count: u32,
+) -> Result<Ref, NoMemory>
+    requires group { group < length (groups encoder.old.machine.base.spec) }
+    requires count { HasMembers encoder.old group count }
+    requires counts { AreCounts encoder.old counts.old }
+    ensures keeps { Keeps encoder.old encoder.new }
+    ensures counts { AreCounts encoder.new counts.new }
+    ensures some { IfOk result (TellsAt encoder.new group (more_than 0 count)) }
 {
     let machine = encoder.machine();
-    let groups = machine.groups();
-    let mut members = groups.members(group);
+    machine.law();
+    let Part { members, told } = known(encoder, &counts.some, group, count);
+    let mut some = told;
+    for place in members..count {
+        let member = member_at(encoder, group, place);
+        let enabled = enabled(encoder, counts, member)?;
+        some = encoder.or(some, enabled)?;
+        counts.some.keep(member, some);
+    }
+    Ok(some)
+}
+
+/// Of so many members, the first of a group, those up to the last of which something is known, or none of them.
+fn known(encoder: &Encoder<'_, '_>, kept: &Kept, group: u32, count: u32) -> Part
+    requires group { group < length (groups encoder.now.machine.base.spec) }
+    requires count { HasMembers encoder.now group count }
+    ensures within { result.members ≤ count }
+    ensures told { (k : ℕ) → AreKept encoder.now (TellsUpTo k) kept.now → TellsAt encoder.now group (more_than k result.members) result.told }
+{
+    let mut members = count;
     while members > 0 {
-        let member = groups.member(group, members - 1);
-        if let Some(counted) = counts.after(member) {
-            return Part { members, counted };
+        let member = member_at(encoder, group, members - 1);
+        if let Some(told) = kept.get(member) {
+            return Part { members, told };
         }
         members -= 1;
     }
-    let nothing = encoder.constant(false);
-    Part {
-        members: 0,
-        counted: Count {
-            some: nothing,
-            two: nothing,
-        },
-    }
+    let told = encoder.constant(false);
+    Part { members: 0, told }
 }
 
-/// With one member more.
-fn with_member(
+/// Where a member is enabled, which is made once of a transition, and then kept.
+fn enabled(
     encoder: &mut Encoder<'_, '_>,
-    before: &Count,
+    counts: &mut Counts,
     member: Member,
-) -> Result<Count, NoMemory>
+) -> Result<Ref, NoMemory>
     requires member { IsMember encoder.old.machine member }
-    requires some { IsRef encoder.old.diagram before.now.some }
-    requires two { IsRef encoder.old.diagram before.now.two }
+    requires counts { AreCounts encoder.old counts.old }
     ensures keeps { Keeps encoder.old encoder.new }
-    ensures part { IfOk result (λ c. (g : Group) (n : ℕ) → IsMemberAt encoder.old.machine.base.spec g n member
-        → IsPart encoder.old g n before.now → IsPart encoder.new g (n + 1) c) }
+    ensures counts { AreCounts encoder.new counts.new }
+    ensures is_ref { IfOk result (IsRef encoder.new.diagram) }
+    ensures answer { IfOk result (TellsMember encoder.new member) }
 {
+    if let Some(enabled) = counts.enabled.get(member) {
+        return Ok(enabled);
+    }
     let enabled = encoder.enabled(member)?;
-    let two = encoder.ite(enabled, before.some, before.two)?;
-    let some = encoder.or(before.some, enabled)?;
-    Ok(Count { some, two })
+    counts.enabled.keep(member, enabled);
+    Ok(enabled)
+}
+
+/// How many members a group has.
+fn members_of(encoder: &Encoder<'_, '_>, group: u32) -> u32
+    requires { group < length (groups encoder.now.machine.base.spec) }
+    ensures { AreMembers encoder.now group result }
+{
+    let groups = encoder.machine().groups();
+    groups.members(group)
+}
+
+/// The member at a place of a group.
+fn member_at(encoder: &Encoder<'_, '_>, group: u32, place: u32) -> Member
+    requires group { group < length (groups encoder.now.machine.base.spec) }
+    requires place { HasMembers encoder.now group (place + 1) }
+    ensures next { IsNext encoder.now group place result }
+    ensures member { IsMember encoder.now.machine result }
+{
+    let groups = encoder.machine().groups();
+    groups.member(group, place)
 }

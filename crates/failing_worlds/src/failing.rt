@@ -4,7 +4,7 @@ ghost use Rattle.guard_encode.specs.Encoding.{Keeps, TellsExactly};
 ghost use Rattle.failing_worlds.specs.Counts.{AreCounts};
 ghost use Rattle.failing_worlds.specs.Failing.{enables_none, enables_two};
 
-use crate::counted::counted;
+use crate::counted::{some_of, two_of};
 use crate::counts::Counts;
 use bdd_core::Ref;
 use guard_encode::Encoder;
@@ -27,7 +27,7 @@ pub fn none_enabled(
         → TellsExactly encoder.new (enables_none encoder.new.machine.base.spec g) r) }
 {
     let condition = encoder.condition(group)?;
-    let some = counted(encoder, counts, group)?.some;
+    let some = some_of(encoder, counts, group)?;
     let none = encoder.not(some)?;
     let failing = encoder.and(condition, none)?;
     encoder.decided(alloc, failing)
@@ -49,7 +49,7 @@ pub fn two_enabled(
         → TellsExactly encoder.new (enables_two encoder.new.machine.base.spec g) r) }
 {
     let condition = encoder.condition(group)?;
-    let two = counted(encoder, counts, group)?.two;
+    let two = two_of(encoder, counts, group)?;
     let failing = encoder.and(condition, two)?;
     encoder.decided(alloc, failing)
 }

@@ -4,6 +4,7 @@
 mod counted;
 mod counts;
 mod failing;
+mod kept;
 
 pub use counts::Counts;
 pub use failing::{none_enabled, two_enabled};

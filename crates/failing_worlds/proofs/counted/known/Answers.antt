@@ -1,26 +1,22 @@
-use Rattle.std.proofs.Common.{◌≡◌, ◌<◌, length, sym, ap, ◌∙◌, subst}
-use Rattle.rsml_syntax.specs.declared.syntax.Spec.{Spec}
-use Rattle.rsml_meaning.specs.Groups.{groups}
-use Rattle.elaborate.specs.Machine.{GroundMachine}
-use Rattle.failing_worlds.proofs.MemberLemmas.{no_members}
-use Rattle.failing_worlds.proofs.TurnLemmas.{known_to}
+use Rattle.std.proofs.Common.{sym, ◌∙◌, arith}
+use Rattle.failing_worlds.specs.Counts.{TellsUpTo}
+use Rattle.failing_worlds.proofs.KeptLemmas.{known_is}
+use Rattle.failing_worlds.proofs.MemberLemmas.{known_to, no_members}
 use Rattle.failing_worlds.proofs.counted.known.Goals as goal
 
-pub members-members-requires : goal.members-members-requires
-members-members-requires c =
-    let own : c.groups-groups.result.now ≡ c.args.encoder.now.machine.base.spec = c.groups-groups.ensures ∙ ap (λ (m : GroundMachine). m.base.spec) c.machine-machine.ensures in
-    subst (λ (s : Spec). c.args.group < length (groups s)) (sym own) c.requires.group
+pub member_at-member-requires-clause-place : goal.member_at-member-requires-clause-place
+member_at-member-requires-clause-place c = λ g at.
+    let all = c.requires.count g at in
+    let within = c.loop-members.invariant in
+    let some = c.loop-members-test.true in
+    omega (arith, all, within, some)
 
-pub member-member-requires-clause-group : goal.member-member-requires-clause-group
-member-member-requires-clause-group c =
-    let own : c.groups-groups.result.now ≡ c.args.encoder.now.machine.base.spec = c.groups-groups.ensures ∙ ap (λ (m : GroundMachine). m.base.spec) c.machine-machine.ensures in
-    subst (λ (s : Spec). c.args.group < length (groups s)) (sym own) c.requires.group
+pub returns-in-Some-clause-told : goal.returns-in-Some-clause-told
+returns-in-Some-clause-told c = λ k are.
+    let x = c.member_at-member.result in
+    let r = c.in-Some.told in
+    known_to k c.args.encoder.now c.args.group c.loop-members.members x r c.loop-members-test.true c.member_at-member.ensures.next
+    (known_is (TellsUpTo k) c.args.encoder.now c.args.kept.now x r are (sym c.in-Some.is ∙ c.get.ensures))
 
-pub returns-in-Some : goal.returns-in-Some
-returns-in-Some c =
-    let own : c.groups-groups.result.now ≡ c.args.encoder.now.machine.base.spec = c.groups-groups.ensures ∙ ap (λ (m : GroundMachine). m.base.spec) c.machine-machine.ensures in
-    known_to c.groups-groups.result.now c.args.encoder.now c.args.counts.now c.args.group c.loop-members.members c.member-member.result c.in-Some.counted own c.loop-members-test.true c.requires.counts
-    c.member-member.ensures (sym c.in-Some.is ∙ c.after.ensures)
-
-pub returns : goal.returns
-returns c = λ g at. no_members c.args.encoder.now g _ c.constant-nothing.ensures c.constant-nothing.ensures
+pub returns-clause-told : goal.returns-clause-told
+returns-clause-told c = λ k are. no_members k c.args.encoder.now c.args.group c.constant-told.result c.constant-told.ensures

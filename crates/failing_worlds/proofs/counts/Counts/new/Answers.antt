@@ -1,5 +1,10 @@
-use Rattle.failing_worlds.proofs.CountsLemmas.{nothing_known}
+use Rattle.failing_worlds.specs.Counts.{TellsMember, TellsUpTo}
+use Rattle.failing_worlds.proofs.KeptLemmas.{nothing_kept}
 use Rattle.failing_worlds.proofs.counts.Counts.new.Goals as goal
 
 pub returns : goal.returns
-returns c = nothing_known c.args.machine.now c.transitions.result _ c.law.ensures c.transitions.ensures c.in_ok-after.ensures
+returns c = λ e same. record {
+  enabled_is = nothing_kept TellsMember c.args.machine.now c.transitions-transitions.result _ c.law.ensures c.transitions-transitions.ensures c.in_ok-enabled.ensures e same;
+  some_is = nothing_kept (TellsUpTo 0) c.args.machine.now c.transitions-transitions.result _ c.law.ensures c.transitions-transitions.ensures c.in_ok-some.ensures e same;
+  two_is = nothing_kept (TellsUpTo 1) c.args.machine.now c.transitions-transitions.result _ c.law.ensures c.transitions-transitions.ensures c.in_ok-two.ensures e same;
+}
