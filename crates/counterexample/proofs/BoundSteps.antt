@@ -10,9 +10,9 @@ use Rattle.guard_encode.proofs.CellLemmas.{of_cell_on}
 use Rattle.guard_encode.proofs.StepLemmas.{keeps_on}
 use Rattle.guard_encode.proofs.FindLemmas.{found_on}
 use Rattle.counterexample.specs.Narrowing.{IsOfNone, Bounds}
-use Rattle.counterexample.specs.Finding.{FindsPassing, Narrowed, Bounded}
+use Rattle.counterexample.specs.Finding.{Narrowed, Bounded}
 use Rattle.counterexample.proofs.Kept.{on_new, on_old}
-use Rattle.counterexample.proofs.LeastNumber.{first_bounds, lower_half, upper_half, bounds_met, least_narrows, at_number, just_number, up_to_number}
+use Rattle.counterexample.proofs.LeastNumber.{first_bounds, lower_half, upper_half, bounds_met, least_narrows, just_number, up_to_number}
 use Rattle.counterexample.proofs.Parts.{number_above, number_below}
 
 -- the number of a cell
@@ -62,36 +62,15 @@ pub bounded_at_one : (e : Encoding) (number : World → ℤ) (low high : ℤ) (f
     → Bounded e number low low f
 bounded_at_one e number low high f met h = λ truth found some. bounds_met e.machine.base.spec number low high truth met (h truth found some)
 
--- some world has the least number of all
-pub narrowed_first : (a b : Encoding) (c : InputCell) (cell : ℕ) (low : ℤ) (f r : ℕ) → Keeps a b
-    → slice_get (cells a.machine.base.spec) cell ≡ Some c → low ≡ c.numbers.low
-    → FindsPassing a b (λ w. int_le (number_in cell w) low) f (Some r) → Narrowed a b int_cmp (number_in cell) low f r
-narrowed_first a b c cell low f r ab at is_low passing = λ truth found some.
-    let t = passing truth found in
-    let ends : Bounds a.machine.base.spec (number_in cell) low low truth = record {
-      some = λ none. t.1 (on_new (λ s. IsOfNone (IsWorld s) (λ w. truth w && int_le (number_in cell w) low)) a b ab none);
-      above = λ w is k. ap (λ z. int_le z (number_in cell w)) is_low ∙ number_above a.machine.base.spec w is cell c at;
-    } in
-    record {
-      next = λ w. truth w && int_le (number_in cell w) low;
-      found = t.0;
-      narrows = least_narrows b.machine.base.spec (number_in cell) low truth (λ w. truth w && int_le (number_in cell w) low)
-          (on_new (λ s. Bounds s (number_in cell) low low truth) a b ab ends) (λ w k. k) (at_number truth (number_in cell) low);
-    }
-
 -- the least number between bounds that have met
-pub narrowed_last : (a b c d : Encoding) (number : World → ℤ) (least : ℤ) (f r : ℕ) → Keeps a b → Keeps b c → Keeps c d
-    → Bounded b number least least f
-    → ((truth : World → Bool) → Finds c truth f → Finds d (λ w. truth w && int_eq (number w) least) r) → Narrowed a d int_cmp number least f r
-narrowed_last a b c d number least f r ab bc cd h rest = λ truth found some.
-    let in_b = found_on a b truth f ab found in
-    let bounds = h truth in_b (λ none. some (on_old (λ s. IsOfNone (IsWorld s) truth) a b ab none)) in
-    record {
-      next = λ w. truth w && int_eq (number w) least;
-      found = rest truth (found_on b c truth f bc in_b);
-      narrows = least_narrows d.machine.base.spec number least truth (λ w. truth w && int_eq (number w) least)
-          (on_new (λ s. Bounds s number least least truth) b d (keeps_on b c d bc cd) bounds) (up_to_number truth number least) (just_number truth number least);
-    }
+pub narrowed_at : (a b c : Encoding) (number : World → ℤ) (least : ℤ) (f r : ℕ) → Keeps a b → Keeps b c → Bounded a number least least f
+    → ((truth : World → Bool) → Finds b truth f → Finds c (λ w. truth w && int_eq (number w) least) r) → Narrowed a c int_cmp number least f r
+narrowed_at a b c number least f r ab bc h rest = λ truth found some. record {
+  next = λ w. truth w && int_eq (number w) least;
+  found = rest truth (found_on a b truth f ab found);
+  narrows = least_narrows c.machine.base.spec number least truth (λ w. truth w && int_eq (number w) least)
+      (on_new (λ s. Bounds s number least least truth) a c (keeps_on a b c ab bc) (h truth found some)) (up_to_number truth number least) (just_number truth number least);
+}
 
 -- a number that is not less is at least as great
 pub not_less : (a b : ℤ) → int_lt a b ≡ false → int_le b a ≡ true

@@ -84,14 +84,6 @@ least_narrows s number least truth next h within all = record {
     by w k a Equal m = all w k m
     by w k a Greater m = tt
 
--- what has the number is within it
-pub at_number : (truth : World → Bool) (number : World → ℤ) (most : ℤ) (w : World) → IsTrue (truth w) → number w ≡ most
-    → IsTrue (truth w && int_le (number w) most)
-at_number truth number most w k e = λ i. k i && within i
-  where
-    within : int_le (number w) most ≡ true
-    within = grind (arith, ints)
-
 -- what has just the number is
 pub up_to_number : (truth : World → Bool) (number : World → ℤ) (most : ℤ) (w : World) → IsTrue (truth w && int_eq (number w) most)
     → IsTrue (truth w && int_le (number w) most)

@@ -9,3 +9,5 @@ pub mod LowSteps
 pub mod ChildSteps
 pub mod BoundSteps
 pub mod WorldStep
+pub mod LowBlocks
+pub mod BlockSteps

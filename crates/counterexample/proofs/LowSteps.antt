@@ -22,7 +22,7 @@ unmarked [] k not = absurd (true≢false not)
 unmarked (m ∷ marks) zero not = ap Some not
 unmarked (m ∷ marks) (suc k) not = unmarked marks k not
 
-alike : (a b : Bool) → (a ≡ true → b ≡ true) → (b ≡ true → a ≡ true) → a ≡ b
+pub alike : (a b : Bool) → (a ≡ true → b ≡ true) → (b ≡ true → a ≡ true) → a ≡ b
 alike true b to from = sym (to refl)
 alike false true to from = from refl
 alike false false to from = refl
@@ -71,7 +71,7 @@ low_too a b read cmp part least f r keeps itself same h = λ truth found of_read
 nat_itself : (x : ℕ) → nat_cmp x x ≡ Equal
 nat_itself x = sym (nat_cmp_is x x Equal refl)
 
-int_itself : (x : ℤ) → int_cmp x x ≡ Equal
+pub int_itself : (x : ℤ) → int_cmp x x ≡ Equal
 int_itself x = sym (int_cmp_is x x Equal refl)
 
 -- a component that is not read has its first child

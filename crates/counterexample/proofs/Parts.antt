@@ -28,7 +28,7 @@ beside t (x ∷ xs) [] h k z d at = absurd (true≢false (sym h))
 beside t (x ∷ xs) (y ∷ ys) h zero z d at = ap (λ a. t a y) (sym (same_Some x z at)) ∙ first_so (t x y) (pointwise t xs ys) h
 beside t (x ∷ xs) (y ∷ ys) h (suc k) z d at = beside t xs ys (second_so (t x y) (pointwise t xs ys) h) k z d at
 
-abbrev fits : InputCell → ℤ → Bool
+abbrev pub fits : InputCell → ℤ → Bool
 fits c n = is_of c.numbers n
 
 pub choices_are : (s : Spec) (w : World) → IsWorld s w → pointwise is_choice (components s) w.choices ≡ true
@@ -65,21 +65,26 @@ number_below s w is k c at =
     second_so (int_le c.numbers.low (slice_index_or w.cells k (pos 0))) (int_le (slice_index_or w.cells k (pos 0)) c.numbers.high)
     (beside fits (cells s) w.cells (cells_are s w is) k c (pos 0) at)
 
--- lists that are equally long, with one more item each
-pub cmp_more : {A : Type 0} (cmp : A → A → Ordering) (xs ys : List A) (x y : A) → length xs ≡ length ys
-    → slice_cmp cmp (xs ++ x ∷ []) (ys ++ y ∷ []) ≡ ordering_then (slice_cmp cmp xs ys) (cmp x y)
-cmp_more cmp [] [] x y l = by (cmp x y)
-  where
-    by : (o : Ordering) → ordering_then o Equal ≡ o
-    by Less = refl
-    by Equal = refl
-    by Greater = refl
-cmp_more cmp [] (b ∷ ys) x y l = absurd (omega (arith, l))
-cmp_more cmp (a ∷ xs) [] x y l = absurd (omega (arith, l))
-cmp_more cmp (a ∷ xs) (b ∷ ys) x y l =
-    ap (ordering_then (cmp a b)) (cmp_more cmp xs ys x y (omega (arith, l))) ∙ by (cmp a b) (slice_cmp cmp xs ys) (cmp x y)
+-- lists that are equally long, with more items each
+pub cmp_append : {A : Type 0} (cmp : A → A → Ordering) (xs ys us vs : List A) → length xs ≡ length ys
+    → slice_cmp cmp (xs ++ us) (ys ++ vs) ≡ ordering_then (slice_cmp cmp xs ys) (slice_cmp cmp us vs)
+cmp_append cmp [] [] us vs l = refl
+cmp_append cmp [] (b ∷ ys) us vs l = absurd (omega (arith, l))
+cmp_append cmp (a ∷ xs) [] us vs l = absurd (omega (arith, l))
+cmp_append cmp (a ∷ xs) (b ∷ ys) us vs l =
+    ap (ordering_then (cmp a b)) (cmp_append cmp xs ys us vs (omega (arith, l))) ∙ by (cmp a b) (slice_cmp cmp xs ys) (slice_cmp cmp us vs)
   where
     by : (o p q : Ordering) → ordering_then o (ordering_then p q) ≡ ordering_then (ordering_then o p) q
     by Less p q = refl
     by Equal p q = refl
     by Greater p q = refl
+
+-- and with one more
+pub cmp_more : {A : Type 0} (cmp : A → A → Ordering) (xs ys : List A) (x y : A) → length xs ≡ length ys
+    → slice_cmp cmp (xs ++ x ∷ []) (ys ++ y ∷ []) ≡ ordering_then (slice_cmp cmp xs ys) (cmp x y)
+cmp_more cmp xs ys x y l = cmp_append cmp xs ys (x ∷ []) (y ∷ []) l ∙ ap (ordering_then (slice_cmp cmp xs ys)) (by (cmp x y))
+  where
+    by : (o : Ordering) → ordering_then o Equal ≡ o
+    by Less = refl
+    by Equal = refl
+    by Greater = refl

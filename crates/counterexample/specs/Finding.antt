@@ -1,11 +1,13 @@
 -- What handles find while worlds are narrowed down.
-use Rattle.std.specs.Prelude.{ℕ, Bool, ◌&&◌, Option, MatchOption, ℤ}
+use Rattle.std.specs.Prelude.{ℕ, ◌↔◌, Bool, ◌&&◌, IsTrue, List, length, take, Option, MatchOption, ℤ}
+use Rattle.std.specs.Ordering.{int_cmp}
+use Rattle.std.specs.Cmp.Lexicographic.{slice_cmp}
 use Rattle.std.specs.declared.cmp.Ordering.{Ordering}
 use Rattle.rsml_syntax.specs.declared.world.World.{World}
 use Rattle.rsml_meaning.specs.Worlds.{IsWorld}
 use Rattle.guard_encode.specs.declared.reading.ReadParts.{ReadParts}
-use Rattle.guard_encode.specs.Encoding.{Encoding, Finds}
-use Rattle.counterexample.specs.Narrowing.{IsOfNone, Narrows, Bounds, IsLow, IsOfRead}
+use Rattle.guard_encode.specs.Encoding.{Encoding, Finds, Keeps, Tells}
+use Rattle.counterexample.specs.Narrowing.{IsOfNone, Narrows, Bounds, IsLow, IsOfRead, AreLeast}
 
 -- it is true of some world: not of none
 abbrev pub IsOfSome : Encoding → (World → Bool) → Type 0
@@ -57,3 +59,18 @@ abbrev pub IsLeastPart : {A : Type 0} → Encoding → ReadParts → (A → A �
 IsLeastPart e read cmp part least f = (truth : World → Bool) → Finds e truth f → IsOfRead e.machine.base.spec read truth
     → IsOfSomeLow e read truth
     → (next : World → Bool) × Narrows (IsLow e.machine.base.spec read) cmp part least truth next
+
+-- r tells in which worlds the cells from a place to another that are read have their least numbers
+pub record TellsLeast (e : Encoding) (read : ReadParts) (from to r : ℕ) : Type 0 where
+  pub test : World → Bool
+  pub told : Tells e test r
+  pub exact : (w : World) → IsWorld e.machine.base.spec w → IsTrue (test w) ↔ AreLeast e.machine.base.spec read from to w
+
+-- if f finds what depends on read parts alone, r finds the low worlds of it with the least numbers of the first cells
+abbrev pub NarrowedTo : Encoding → Encoding → ReadParts → List ℤ → ℕ → ℕ → Type 0
+NarrowedTo old new read numbers f r = NarrowedLow old new read (slice_cmp int_cmp) (λ w. take (length numbers) w.cells) numbers f r
+
+-- what was narrowed down to f by numbers is narrowed down to r by more numbers
+abbrev pub NarrowedOn : Encoding → Encoding → ReadParts → List ℤ → List ℤ → ℕ → ℕ → Type 0
+NarrowedOn old new read numbers more f r = (first : Encoding) (g : ℕ) → Keeps first old → NarrowedTo first old read numbers g f
+    → NarrowedTo first new read more g r

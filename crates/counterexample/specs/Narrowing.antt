@@ -1,5 +1,5 @@
 -- Worlds narrowed down, part by part, to those that have the least.
-use Rattle.std.specs.Prelude.{◌≡◌, ℕ, Bool, false, ◌&&◌, IsTrue, ⊤, List, [], ◌∷◌, map, if◌then◌else◌, Some, slice_get, slice_index_or, ℤ, int_le, pos}
+use Rattle.std.specs.Prelude.{◌≡◌, ℕ, ◌-◌, ◌<◌, ◌≤◌, Bool, true, false, ◌&&◌, IsTrue, ⊤, List, [], ◌∷◌, map, take, drop, if◌then◌else◌, Some, slice_get, slice_index_or, ℤ, int_le, pos}
 use Rattle.std.specs.Ordering.{MatchOrdering}
 use Rattle.std.specs.declared.cmp.Ordering.{Ordering}
 use Rattle.rsml_syntax.specs.declared.syntax.Spec.{Spec}
@@ -50,3 +50,16 @@ pub record IsLow (s : Spec) (read : ReadParts) (w : World) : Type 0 where
 -- it does not depend on the parts that are not read
 abbrev pub IsOfRead : Spec → ReadParts → (World → Bool) → Type 0
 IsOfRead s read truth = (w : World) → IsWorld s w → truth (low_of s read w) ≡ truth w
+
+-- the cells from a place to another that are read have their least numbers
+abbrev pub AreLeast : Spec → ReadParts → ℕ → ℕ → World → Type 0
+AreLeast s read from to w = (k : ℕ) (c : InputCell) → from ≤ k → k < to → slice_get (cells s) k ≡ Some c
+    → slice_index_or read.cells k true ≡ true → slice_index_or w.cells k (pos 0) ≡ c.numbers.low
+
+-- none of the cells from a place to another is read
+abbrev pub AreUnread : ReadParts → ℕ → ℕ → Type 0
+AreUnread read from to = (k : ℕ) → from ≤ k → k < to → slice_index_or read.cells k true ≡ false
+
+-- the least numbers that the cells from a place to another may hold
+abbrev pub lows : Spec → ℕ → ℕ → List ℤ
+lows s from to = map (λ c. c.numbers.low) (take (to - from) (drop from (cells s)))

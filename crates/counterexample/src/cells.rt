@@ -1,14 +1,14 @@
 //! The least numbers of the cells.
-ghost use Rattle.std.specs.Prelude.{◌≡◌, ◌<◌, ◌≤ℤ◌, ◌<ℤ◌, IfOk, length, pos, slice_index_or};
+ghost use Rattle.std.specs.Prelude.{◌≡◌, ◌<◌, ◌≤◌, ◌≤ℤ◌, ◌<ℤ◌, IfOk, length, pos, slice_index_or};
 ghost use Rattle.std.specs.Ordering.{int_cmp};
 ghost use Rattle.std.specs.Cmp.Lexicographic.{slice_cmp};
 ghost use Rattle.rsml_meaning.specs.Cells.{cells as all_cells};
 ghost use Rattle.bdd_core.specs.Diagram.{IsRef};
 ghost use Rattle.guard_encode.specs.Encoding.{Keeps};
-ghost use Rattle.counterexample.specs.Finding.{Bounded, Narrowed, NarrowedLow, IsLeastPart};
+ghost use Rattle.counterexample.specs.Finding.{Bounded, Narrowed, NarrowedLow, NarrowedOn, IsLeastPart};
 
-use crate::passing::with_at_most;
-use crate::reading::is_read;
+use crate::blocks::{block_end, count_read, with_low_block};
+use crate::reading::{cell_number, is_read};
 use bdd_core::Ref;
 use guard_encode::{Encoder, ReadParts};
 use rsml_base::{List, NoMemory};
@@ -25,25 +25,108 @@ pub(crate) fn least_cells(
     ensures keeps { Keeps encoder.old encoder.new }
     ensures answer { IfOk result (λ numbers. IsLeastPart encoder.old read.now (slice_cmp int_cmp) (λ w. w.cells) numbers f) }
 {
-    let machine = encoder.machine();
+    let cells = encoder.machine().cells();
     let mut numbers = List::new(alloc);
     let mut rest = f;
-    for place in 0..machine.cells() {
-        let (number, next) = number_of(alloc, encoder, read, cell_number(place)?, rest)?;
-        numbers.push(number)?;
+    let mut many = 1;
+    while numbers.len() < cells {
+        let (next, more) = more_numbers(alloc, encoder, read, &mut numbers, many, rest)?;
         rest = next;
+        many = more;
     }
     Ok(numbers)
 }
 
-/// The number of a cell. Where it did not fit, memory would not hold so many.
-fn cell_number(place: usize) -> Result<u32, NoMemory>
-    ensures { IfOk result (λ cell. cell ≡ place) }
+/// The numbers up to the end of the next block with so many cells that are read, where these have their least numbers together.
+/// Otherwise those up to one of them that does not. With them how many to try next.
+fn more_numbers(
+    alloc: Global,
+    encoder: &mut Encoder<'_, '_>,
+    read: &ReadParts,
+    numbers: &mut List<i64>,
+    many: usize,
+    f: Ref,
+) -> Result<(Ref, usize), NoMemory>
+    requires f_ref { IsRef encoder.old.diagram f }
+    requires many { 0 < many }
+    requires some { length numbers.old < length (all_cells encoder.old.machine.base.spec) }
+    ensures keeps { Keeps encoder.old encoder.new }
+    ensures is_ref { IfOk result (λ found. IsRef encoder.new.diagram found.0) }
+    ensures many { IfOk result (λ found. 0 < found.1) }
+    ensures more { IfOk result (λ found. length numbers.old < length numbers.new) }
+    ensures within { IfOk result (λ found. length numbers.new ≤ length (all_cells encoder.old.machine.base.spec)) }
+    ensures answer { IfOk result (λ found. NarrowedOn encoder.old encoder.new read.now numbers.old numbers.new f found.0) }
 {
-    match u32::try_from(place) {
-        Ok(cell) => Ok(cell),
-        Err(_) => Err(NoMemory),
+    let from = numbers.len();
+    let end = block_end(read, from, many, encoder.machine().cells());
+    let rest = with_low_block(alloc, encoder, read, numbers, end, f)?;
+    if numbers.len() == end {
+        return Ok((rest, many.saturating_mul(2)));
     }
+    let tried = count_read(read, from, end);
+    let rest = up_to_higher(alloc, encoder, read, numbers, tried, rest)?;
+    Ok((rest, many - many / 2))
+}
+
+/// The numbers up to a cell that does not have its least of all: one of the next so many that are read.
+fn up_to_higher(
+    alloc: Global,
+    encoder: &mut Encoder<'_, '_>,
+    read: &ReadParts,
+    numbers: &mut List<i64>,
+    many: usize,
+    f: Ref,
+) -> Result<Ref, NoMemory>
+    requires f_ref { IsRef encoder.old.diagram f }
+    requires some { length numbers.old < length (all_cells encoder.old.machine.base.spec) }
+    ensures keeps { Keeps encoder.old encoder.new }
+    ensures is_ref { IfOk result (IsRef encoder.new.diagram) }
+    ensures more { IfOk result (λ rest. length numbers.old < length numbers.new) }
+    ensures within { IfOk result (λ rest. length numbers.new ≤ length (all_cells encoder.old.machine.base.spec)) }
+    ensures answer { IfOk result (NarrowedOn encoder.old encoder.new read.now numbers.old numbers.new f) }
+{
+    let cells = encoder.machine().cells();
+    let mut rest = f;
+    let mut many = many;
+    while many > 1 {
+        let half = many / 2;
+        let end = block_end(read, numbers.len(), half, cells);
+        let next = with_low_block(alloc, encoder, read, numbers, end, rest)?;
+        many = if numbers.len() == end {
+            many - half
+        } else {
+            half
+        };
+        rest = next;
+    }
+    let end = block_end(read, numbers.len(), 1, cells);
+    one_by_one(alloc, encoder, read, numbers, end, rest)
+}
+
+/// The numbers up to a place, of one cell after another.
+fn one_by_one(
+    alloc: Global,
+    encoder: &mut Encoder<'_, '_>,
+    read: &ReadParts,
+    numbers: &mut List<i64>,
+    end: usize,
+    f: Ref,
+) -> Result<Ref, NoMemory>
+    requires f_ref { IsRef encoder.old.diagram f }
+    requires from { length numbers.old ≤ end }
+    requires end { end ≤ length (all_cells encoder.old.machine.base.spec) }
+    ensures keeps { Keeps encoder.old encoder.new }
+    ensures is_ref { IfOk result (IsRef encoder.new.diagram) }
+    ensures many { IfOk result (λ rest. length numbers.new ≡ end) }
+    ensures answer { IfOk result (NarrowedOn encoder.old encoder.new read.now numbers.old numbers.new f) }
+{
+    let mut rest = f;
+    for place in numbers.len()..end {
+        let (number, next) = number_of(alloc, encoder, read, cell_number(place)?, rest)?;
+        numbers.push(number)?;
+        rest = next;
+    }
+    Ok(rest)
 }
 
 /// The least number of a cell: the least of all, where it is not read.
@@ -60,7 +143,7 @@ fn number_of(
     ensures is_ref { IfOk result (λ found. IsRef encoder.new.diagram found.1) }
     ensures answer { IfOk result (λ found. NarrowedLow encoder.old encoder.new read.now int_cmp (λ w. slice_index_or w.cells cell (pos 0)) found.0 f found.1) }
 {
-    if !is_read(&read.cells, cell) {
+    if !is_read(&read.cells, cell as usize) {
         return Ok((encoder.machine().worlds().low(cell), f));
     }
     least_number(alloc, encoder, cell, f)
@@ -80,11 +163,6 @@ fn least_number(
     ensures is_ref { IfOk result (λ found. IsRef encoder.new.diagram found.1) }
     ensures answer { IfOk result (λ found. Narrowed encoder.old encoder.new int_cmp (λ w. slice_index_or w.cells cell (pos 0)) found.0 f found.1) }
 {
-    // The least number of all is tried first: mostly it is the one.
-    let low = encoder.machine().worlds().low(cell);
-    if let Some(rest) = with_at_most(alloc, encoder, f, cell, low)? {
-        return Ok((low, rest));
-    }
     let number = least_by_halving(alloc, encoder, cell, f)?;
     let rest = encoder.fixed(f, cell, number)?;
     Ok((number, rest))

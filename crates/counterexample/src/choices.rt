@@ -51,7 +51,7 @@ fn child_of(
     ensures is_ref { IfOk result (λ found. IsRef encoder.new.diagram found.1) }
     ensures answer { IfOk result (λ found. NarrowedLow encoder.old encoder.new read.now nat_cmp (λ w. slice_index_or w.choices component 0) found.0 f found.1) }
 {
-    if !is_read(&read.choices, component) {
+    if !is_read(&read.choices, component as usize) {
         return Ok((0, f));
     }
     least_child(alloc, encoder, component, f)

@@ -1,6 +1,7 @@
 //! The least world in which a function of an encoder is true.
 #![tactic(auto)]
 
+mod blocks;
 mod cells;
 mod choices;
 mod least;

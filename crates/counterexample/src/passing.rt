@@ -1,8 +1,7 @@
 //! Those of the worlds of a function that pass a test.
-ghost use Rattle.std.specs.Prelude.{◌<◌, ◌==◌, Bool, IfOk, IfSome, int_le, length, pos, slice_index_or};
+ghost use Rattle.std.specs.Prelude.{◌<◌, ◌==◌, Bool, IfOk, IfSome, length, slice_index_or};
 ghost use Rattle.rsml_syntax.specs.declared.world.World.{World};
 ghost use Rattle.rsml_meaning.specs.Instances.{components};
-ghost use Rattle.rsml_meaning.specs.Cells.{cells};
 ghost use Rattle.bdd_core.specs.Diagram.{IsRef};
 ghost use Rattle.guard_encode.specs.Encoding.{Keeps, Tells};
 ghost use Rattle.counterexample.specs.Finding.{FindsPassing};
@@ -13,7 +12,7 @@ use rsml_base::NoMemory;
 use std::alloc::Global;
 
 /// Where `f` is true and a test passes, if there is such a world.
-fn passing(
+pub(crate) fn passing(
     alloc: Global,
     encoder: &mut Encoder<'_, '_>,
     f: Ref,
@@ -49,23 +48,5 @@ pub(crate) fn with_child(
     ensures answer { IfOk result (FindsPassing encoder.old encoder.new (λ w. slice_index_or w.choices component 0 == place) f) }
 {
     let test = encoder.choice(component, place)?;
-    passing(alloc, encoder, f, test)
-}
-
-/// Where `f` is true and a cell has at most a number, if there is such a world.
-pub(crate) fn with_at_most(
-    alloc: Global,
-    encoder: &mut Encoder<'_, '_>,
-    f: Ref,
-    cell: u32,
-    number: i64,
-) -> Result<Option<Ref>, NoMemory>
-    requires f_ref { IsRef encoder.old.diagram f }
-    requires cell { cell < length (cells encoder.old.machine.base.spec) }
-    ensures keeps { Keeps encoder.old encoder.new }
-    ensures is_ref { IfOk result (λ found. IfSome found (IsRef encoder.new.diagram)) }
-    ensures answer { IfOk result (FindsPassing encoder.old encoder.new (λ w. int_le (slice_index_or w.cells cell (pos 0)) number) f) }
-{
-    let test = encoder.at_most(cell, number)?;
     passing(alloc, encoder, f, test)
 }
