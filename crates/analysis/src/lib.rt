@@ -4,5 +4,5 @@
 mod analysing;
 mod chains;
 
-pub use analysing::analysis;
+pub use analysing::{Analysed, analysis};
 pub use chains::chains_of;

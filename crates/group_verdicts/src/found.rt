@@ -19,10 +19,19 @@ pub fn verdicts(alloc: Global, machine: &Machine<'_>) -> Result<Vec<Verdict>, No
     ensures { IfOk result (λ v. AllZip (IsVerdict machine.now.base.spec) (groups machine.now.base.spec) (map verdict_of v.items)) }
 {
     let mut encoder = Encoder::new(alloc, machine)?;
+    verdicts_by(alloc, &mut encoder)
+}
+
+/// The same, by the diagrams of an encoder of the machine.
+pub fn verdicts_by(alloc: Global, encoder: &mut Encoder<'_, '_>) -> Result<Vec<Verdict>, NoMemory>
+    ensures keeps { Keeps encoder.old encoder.new }
+    ensures found { IfOk result (λ v. AllZip (IsVerdict encoder.old.machine.base.spec) (groups encoder.old.machine.base.spec) (map verdict_of v.items)) }
+{
+    let machine = encoder.machine();
     let mut counts = Counts::new(alloc, machine)?;
     let mut verdicts = Vec::new(alloc);
     for group in 0..machine.groups().count() {
-        verdicts.push(verdict(alloc, &mut encoder, &mut counts, group)?)?;
+        verdicts.push(verdict(alloc, encoder, &mut counts, group)?)?;
     }
     Ok(verdicts)
 }

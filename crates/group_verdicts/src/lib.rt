@@ -3,4 +3,4 @@
 
 mod found;
 
-pub use found::verdicts;
+pub use found::{verdicts, verdicts_by};

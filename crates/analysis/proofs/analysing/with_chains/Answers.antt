@@ -12,3 +12,7 @@ report-requires-clause-verdicts c =
     let s = c.args.machine.now.base.spec in
     let of_machine = subst (λ (vs : List Verdict). AllZip (IsVerdict s) (groups s) (map verdict_of vs)) (sym c.as_slice.ensures.value) c.in_ok-verdicts.ensures in
     subst (λ (t : Spec). AllZip (IsVerdict t) (groups t) (map verdict_of c.as_slice.result.now)) c.requires.machine of_machine
+
+pub returns-clause-verdicts : goal.returns-clause-verdicts
+returns-clause-verdicts c =
+    subst (λ (t : Spec). AllZip (IsVerdict t) (groups t) (map verdict_of c.in_ok-verdicts.verdicts.items)) c.requires.machine c.in_ok-verdicts.ensures
