@@ -1,0 +1,9 @@
+//! What stands in a specification, as lists in the order of the text.
+#![tactic(auto)]
+
+mod survey;
+
+pub use survey::{
+    Around, BusAt, Declared, InPath, OwnedSum, Sized, Sort, Space, StateAt, Survey, Table,
+    TransitionAt, Use, index_of, rows_in, simple_in, sort_of,
+};
