@@ -1,0 +1,157 @@
+use crate::token_kind::TokenKind;
+use rsml_base::{NoMemory, put};
+use rsml_syntax::{Mark, Placed, Word};
+use source_notes::{back, front, token_text};
+use std::alloc::Global;
+
+/// A place among the tokens of a text.
+#[derive(Clone, Copy)]
+pub struct Spot<'t> {
+    pub text: &'t [u8],
+    pub tokens: &'t [Placed],
+    /// The place of a token, from 0, or one past the last.
+    pub place: usize,
+}
+
+impl<'t> Spot<'t> {
+    /// The token.
+    pub fn token(&self) -> Option<&'t Placed> {
+        self.tokens.get(self.place)
+    }
+
+    /// The token before it.
+    pub fn before(&self) -> Option<&'t Placed> {
+        self.tokens.get(self.place.checked_sub(1)?)
+    }
+
+    /// The token behind it.
+    pub fn after(&self) -> Option<&'t Placed> {
+        self.tokens.get(self.place.checked_add(1)?)
+    }
+
+    pub fn is_mark(&self, mark: Mark) -> bool {
+        has_mark(self.token(), mark)
+    }
+
+    pub fn is_word(&self, word: Word) -> bool {
+        match self.token() {
+            Some(placed) => TokenKind::of(&placed.token) == TokenKind::Word(word),
+            None => false,
+        }
+    }
+
+    /// Whether the token opens a declaration or a state.
+    pub fn is_opening(&self) -> bool {
+        match self.token() {
+            Some(placed) => match TokenKind::of(&placed.token) {
+                TokenKind::Word(word) => opens(word),
+                _ => false,
+            },
+            None => false,
+        }
+    }
+
+    pub fn follows_mark(&self, mark: Mark) -> bool {
+        has_mark(self.before(), mark)
+    }
+
+    pub fn precedes_mark(&self, mark: Mark) -> bool {
+        has_mark(self.after(), mark)
+    }
+
+    /// The offset behind the token before it.
+    pub fn behind(&self) -> usize {
+        match self.before() {
+            Some(placed) => end_of(self.text, placed),
+            None => 0,
+        }
+    }
+
+    /// The offset of the token, or behind the last one.
+    pub fn at(&self) -> usize {
+        match self.token() {
+            Some(placed) => placed.at as usize,
+            None => self.behind(),
+        }
+    }
+}
+
+/// What is tried in place of the text before a token, and the number that the token then has.
+#[derive(Drop)]
+pub struct Frame {
+    pub front: Vec<u8>,
+    pub token: u32,
+}
+
+/// Whether a word opens a declaration, or the top state.
+fn opens(word: Word) -> bool {
+    match word {
+        Word::Enumeration | Word::Range | Word::Constant | Word::Input | Word::Event => true,
+        Word::Macro | Word::Function | Word::Receive | Word::Send | Word::State => true,
+        _ => false,
+    }
+}
+
+/// The place of the last declaration, or of the top state, that opens before a place.
+fn last_opened(tokens: &[Placed], place: usize) -> Option<usize> {
+    let mut depth: usize = 0;
+    let mut last = None;
+    for (at, placed) in tokens.iter().take(place).enumerate() {
+        match TokenKind::of(&placed.token) {
+            TokenKind::Mark(Mark::OpenBrace) => depth = depth.saturating_add(1),
+            TokenKind::Mark(Mark::CloseBrace) => depth = depth.saturating_sub(1),
+            TokenKind::Word(word) => {
+                if depth == 0 && opens(word) {
+                    last = Some(at);
+                }
+            }
+            _ => {}
+        }
+    }
+    last
+}
+
+/// A token's number, where these many stand before it.
+fn number_behind(count: usize) -> u32 {
+    match u32::try_from(count.saturating_add(1)) {
+        Ok(number) => number,
+        Err(_) => u32::MAX,
+    }
+}
+
+/// The frame of a place: the declarations before the one around it are left out.
+pub fn frame_of(alloc: Global, spot: &Spot<'_>) -> Result<Frame, NoMemory> {
+    let before = front(spot.text, spot.behind());
+    let start = last_opened(spot.tokens, spot.place);
+    let opened = match start {
+        Some(start) => spot.tokens.get(start),
+        None => None,
+    };
+    match (start, opened) {
+        (Some(start), Some(opened)) => {
+            let mut text = Vec::from_slice(alloc, b"specification a;\n")?;
+            put(&mut text, back(before, opened.at as usize))?;
+            Ok(Frame {
+                front: text,
+                token: number_behind(spot.place.saturating_sub(start).saturating_add(3)),
+            })
+        }
+        _ => Ok(Frame {
+            front: Vec::from_slice(alloc, before)?,
+            token: number_behind(spot.place),
+        }),
+    }
+}
+
+/// The offset behind a token.
+pub fn end_of(text: &[u8], placed: &Placed) -> usize {
+    let at = placed.at as usize;
+    at.saturating_add(token_text(text, at).len())
+}
+
+fn has_mark(token: Option<&Placed>, mark: Mark) -> bool {
+    match token {
+        Some(placed) => TokenKind::of(&placed.token) == TokenKind::Mark(mark),
+        None => false,
+    }
+}

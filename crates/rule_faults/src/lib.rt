@@ -1,0 +1,18 @@
+//! Tells at which names a specification breaks a rule or a limit, and what is wrong there.
+#![tactic(auto)]
+
+mod behind;
+mod kind_faults;
+mod kinds;
+mod limit_faults;
+mod naming;
+mod near;
+mod row_places;
+mod sizes;
+mod state_faults;
+mod subject;
+mod table_faults;
+mod telling;
+
+pub use limit_faults::tell_exceeded;
+pub use telling::tell_broken;
