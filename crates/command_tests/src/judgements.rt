@@ -7,7 +7,7 @@ fn told(judgement: &Judgement) -> (&'static str, &[u8]) {
         Judgement::TooLong => ("too long", &[]),
         Judgement::Unread { line } => ("unread", line.as_slice()),
         Judgement::Broken { line } => ("broken", line.as_slice()),
-        Judgement::Refused { report } => ("refused", report.as_slice()),
+        Judgement::Refused { report, .. } => ("refused", report.as_slice()),
         Judgement::Certified { report, .. } => ("certified", report.as_slice()),
     }
 }

@@ -1,5 +1,5 @@
 -- What a command leaves, from what its steps leave.
-use Rattle.std.proofs.Common.{◌≡◌, ◌≢◌, ◌<◌, ◌⊎◌, inl, inr, Option, Some, None, length, refl, sym, ap, ◌∙◌, subst}
+use Rattle.std.proofs.Common.{◌≡◌, ◌≢◌, ◌<◌, ◌⊎◌, inl, inr, Option, Some, None, [], length, refl, sym, ap, ◌∙◌, subst, append-nil}
 use Rattle.std.specs.Prelude.{IfSome}
 use Rattle.rsml.specs.Commands.{Bytes, Command, act, simulate, demo, command_of, specification_file}
 use Rattle.rsml.specs.Commands as commands
@@ -22,6 +22,13 @@ use Rattle.rsml.proofs.DemoLemmas.{runs_demo}
 -- what an action comes to on a text that is too long
 long_output : (does : Action) (text : Bytes) → greatest_text < length text → ActionOutput does text status.TooLong lines.long
 long_output action.Check text long = output.CheckOutput.too_long long refl refl
+long_output action.Explain text long = record {
+  report = lines.long;
+  notes = [];
+  split = sym (append-nil lines.long);
+  checked = output.CheckOutput.too_long long refl refl;
+  comments = record { lines = []; plain = refl; spelled = refl };
+}
 long_output action.Format text long = output.FormatOutput.too_long long refl refl
 long_output action.Migrate text long = output.MigrateOutput.too_long long refl refl
 

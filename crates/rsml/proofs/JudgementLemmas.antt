@@ -2,6 +2,8 @@
 use Rattle.std.proofs.Common.{◌≡◌, ◌≢◌, ℕ, true, false, List, Some, None, Result, Ok, Err, Vec, ◌++◌, sym, subst, refl, arith}
 use Rattle.std.specs.Prelude.{IfOk, IsTrue, ◌↔◌, Bool, codes, decimal}
 use Rattle.std.specs.declared.alloc.Global.{Global}
+use Rattle.analysis.specs.Verdicts.{AreVerdicts}
+use Rattle.finding_texts.specs.declared.verdict.Verdict.{Verdict}
 use Rattle.one_run.specs.Laws.{CertifiedIsDeterministic, LastLineIsVerdict}
 use Rattle.rsml_base.specs.declared.no_memory.NoMemory.{NoMemory}
 use Rattle.rsml_meaning.specs.Certified.{Certified}
@@ -58,7 +60,7 @@ pub judgement_of : (text : Bytes) (s : Spec) (j : Judgement) → IsTextOf text s
 judgement_of text s judgement.TooLong t h = elim h [ ]
 judgement_of text s (judgement.Unread line) t h = elim h [ ]
 judgement_of text s (judgement.Broken line) t h = (s, t, h)
-judgement_of text s (judgement.Refused report) t h = (s, t, h)
+judgement_of text s (judgement.Refused report checked verdicts) t h = (s, t, h)
 judgement_of text s (judgement.Certified report checked) t h = (s, t, h)
 
 pub judgements_of : (text : Bytes) (s : Spec) (r : Result Judgement NoMemory) → IsTextOf text s → IfOk r (IsJudged s) → IfOk r (IsJudgement text)
@@ -74,5 +76,8 @@ module _ (s : Spec) (keeps : Keeps s) (told : Vec ℕ Global) (certified : Bool)
       let c = certificate one last s told.items keeps (is.0 e) report in
       subst (λ (x : Judgement). IsJudged s x) (sym f) (refl, keeps, c)
 
-  pub refused_judged : LastLineIsVerdict → certified ≡ false → IsRefusal s told.items
-  refused_judged last e = refusal last s told.items keeps (λ c. absurd (cc (e, is.1 c))) report
+  pub refused_judged : LastLineIsVerdict → certified ≡ false → (verdicts : Vec Verdict Global) → AreVerdicts s verdicts.items → (j : Judgement)
+      → j ≡ judgement.Refused told s verdicts → IsJudged s j
+  refused_judged last e verdicts are j f =
+      let r = refusal last s told.items keeps (λ c. absurd (cc (e, is.1 c))) report in
+      subst (λ (x : Judgement). IsJudged s x) (sym f) (refl, keeps, r, are)

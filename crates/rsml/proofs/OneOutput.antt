@@ -29,13 +29,13 @@ use Rattle.simulator.specs.Outputs.{end_of, fault_line, done, faulty}
 use Rattle.simulator.specs.Outputs as simulation
 use Rattle.simulator.specs.declared.sim_end.SimEnd.{SimEnd}
 use Rattle.simulator.specs.declared.sim_end.SimEnd.TheVariants as end
-use Rattle.rsml.specs.Commands.{Bytes, Command, act, simulate, demo}
+use Rattle.rsml.specs.Commands.{Bytes, Command, act, simulate, demo, command_of}
 use Rattle.rsml.specs.FaultLines as lines
 use Rattle.rsml.specs.Headline.{IsRightReport}
 use Rattle.rsml.specs.Judgements.{IsBroken}
 use Rattle.rsml.specs.Judgements as judged
-use Rattle.rsml.specs.Laws.{OutputIsOne}
-use Rattle.rsml.specs.Output.{SpecificationOutput, CheckOutput, FormatOutput, MigrateOutput, ActionOutput, SimulateOutput, IsCertifiedText, status_of, no_command, acted, demonstrated}
+use Rattle.rsml.specs.Laws.{OutputIsOne, AreSame, whole, explained}
+use Rattle.rsml.specs.Output.{SpecificationOutput, CheckOutput, ExplainOutput, FormatOutput, MigrateOutput, ActionOutput, SimulateOutput, IsCertifiedText, status_of, no_command, acted, demonstrated}
 use Rattle.rsml.specs.Output as output
 use Rattle.rsml.specs.Summary.{IsSummary}
 use Rattle.rsml.specs.Texts.{greatest_text, HasFault, AreThemselves, IsTextOf, IsUnread, IsTextByFirst, IsUnreadByFirst, no_tokens, no_syntax, too_deep}
@@ -48,6 +48,9 @@ use Rattle.rsml.proofs.SummaryLemmas.{one_summary}
 -- one status and one text
 abbrev AreOne : Status → Bytes → Status → Bytes → Type 0
 AreOne a xs b ys = (a ≡ b) × (xs ≡ ys)
+
+are_same : (words : List Bytes) (a b : Status) (xs ys : Bytes) → AreOne a xs b ys → (a ≡ b) × AreSame words xs ys
+are_same words a b xs ys one = (one.0, whole one.1)
 
 -- what a command comes to
 abbrev OfCommand : (Bytes → Bytes) → Command → Status → Bytes → Type 0
@@ -254,10 +257,18 @@ module _ (faults : AtMostOneFirstFault) (lists : AtMostOneTokenList) (never : Ne
   one_migrate text a b xs ys (output.migrated s t e h) (output.MigrateOutput.unread u f) = absurd (first_not text ys s t u)
   one_migrate text a b xs ys (output.migrated s t e h) (output.migrated r u f k) = (e ∙ sym f, h ∙ ap (λ x. layout (tokens_of x)) (one_text_by_first text s r t u) ∙ sym k)
 
-  one_action : ReportIsOne → (does : Action) (text : Bytes) (a b : Status) (xs ys : Bytes) → ActionOutput does text a xs → ActionOutput does text b ys → AreOne a xs b ys
-  one_action one action.Check text a b xs ys o p = one_check one text a b xs ys o p
-  one_action one action.Format text a b xs ys o p = one_format text a b xs ys o p
-  one_action one action.Migrate text a b xs ys o p = one_migrate text a b xs ys o p
+  one_explain : ReportIsOne → (words : List Bytes) (file text : Bytes) → command_of words ≡ Some (act action.Explain file)
+      → (a b : Status) (xs ys : Bytes) → ExplainOutput text a xs → ExplainOutput text b ys → (a ≡ b) × AreSame words xs ys
+  one_explain one words file text is a b xs ys o p =
+      let same = one_check one text a b o.report p.report o.checked p.checked in
+      (same.0, explained file o.report o.notes p.notes is o.split (p.split ∙ ap (λ zs. zs ++ p.notes) (sym same.1)) o.comments p.comments)
+
+  one_action : ReportIsOne → (does : Action) (words : List Bytes) (file text : Bytes) → command_of words ≡ Some (act does file)
+      → (a b : Status) (xs ys : Bytes) → ActionOutput does text a xs → ActionOutput does text b ys → (a ≡ b) × AreSame words xs ys
+  one_action one action.Check words file text is a b xs ys o p = are_same words a b xs ys (one_check one text a b xs ys o p)
+  one_action one action.Explain words file text is a b xs ys o p = one_explain one words file text is a b xs ys o p
+  one_action one action.Format words file text is a b xs ys o p = are_same words a b xs ys (one_format text a b xs ys o p)
+  one_action one action.Migrate words file text is a b xs ys o p = are_same words a b xs ys (one_migrate text a b xs ys o p)
 
   -- `check` of a certified text ends with Done
   check_is_done : (text : Bytes) (s : Spec) (a : Status) (xs : Bytes) → IsCertifiedText text s → CheckOutput text a xs → a ≡ status.Done
@@ -283,19 +294,19 @@ module _ (faults : AtMostOneFirstFault) (lists : AtMostOneTokenList) (never : Ne
         (e ∙ ap status_of same.0 ∙ sym f, same.1)
 
     pub one_output : OutputIsOne
-    one_output words contents a b xs ys (no_command none e h) (no_command _ f k) = (e ∙ sym f, h ∙ sym k)
+    one_output words contents a b xs ys (no_command none e h) (no_command _ f k) = (e ∙ sym f, whole (h ∙ sym k))
     one_output words contents a b xs ys (no_command none e h) (acted does file is o) = absurd (cc (none, is))
     one_output words contents a b xs ys (no_command none e h) (output.Output.simulated file events is o) = absurd (cc (none, is))
     one_output words contents a b xs ys (acted does file is o) (no_command none e h) = absurd (cc (none, is))
     one_output words contents a b xs ys (acted does file is o) (acted other file' at p) =
         let same = same_some (act other file') (act does file) (sym at ∙ is) in
-        one_action one does (contents file) a b xs ys o (subst (λ (c : Command). OfCommand contents c b ys) same p)
+        one_action one does words file (contents file) is a b xs ys o (subst (λ (c : Command). OfCommand contents c b ys) same p)
     one_output words contents a b xs ys (acted does file is o) (output.Output.simulated file' events at p) = absurd (cc (is, at))
     one_output words contents a b xs ys (output.Output.simulated file events is o) (no_command none e h) = absurd (cc (none, is))
     one_output words contents a b xs ys (output.Output.simulated file events is o) (acted does file' at p) = absurd (cc (is, at))
     one_output words contents a b xs ys (output.Output.simulated file events is o) (output.Output.simulated file' events' at p) =
         let same = same_some (simulate file' events') (simulate file events) (sym at ∙ is) in
-        one_simulate (contents file) (contents events) a b xs ys o (subst (λ (c : Command). OfCommand contents c b ys) same p)
+        are_same words a b xs ys (one_simulate (contents file) (contents events) a b xs ys o (subst (λ (c : Command). OfCommand contents c b ys) same p))
     one_output words contents a b xs ys (no_command none e h) (demonstrated n is f s) = absurd (cc (none, is))
     one_output words contents a b xs ys (acted does file is o) (demonstrated n at f s) = absurd (cc (is, at))
     one_output words contents a b xs ys (output.Output.simulated file events is o) (demonstrated n at f s) = absurd (cc (is, at))
@@ -304,4 +315,4 @@ module _ (faults : AtMostOneFirstFault) (lists : AtMostOneTokenList) (never : Ne
     one_output words contents a b xs ys (demonstrated n is e s) (output.Output.simulated file events at o) = absurd (cc (is, at))
     one_output words contents a b xs ys (demonstrated n is e s) (demonstrated k at f t) =
         let same : k ≡ n = ap (units_in n) (same_some (demo k) (demo n) (sym at ∙ is)) in
-        (e ∙ sym f, one_summary last one scopes runs n xs ys s (subst (λ (u : ℕ). IsSummary u ys) same t))
+        (e ∙ sym f, whole (one_summary last one scopes runs n xs ys s (subst (λ (u : ℕ). IsSummary u ys) same t)))

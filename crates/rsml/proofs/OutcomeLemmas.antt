@@ -1,8 +1,10 @@
 -- What an action comes to on a text, by what its steps answered.
 use Rattle.std.proofs.Common.{◌≡◌, ◌≢◌, ℕ, Vec, Result, Ok, Err, sym, ◌∙◌, subst}
-use Rattle.std.specs.Prelude.{IfOk}
+use Rattle.std.specs.Prelude.{◌++◌, IfOk}
 use Rattle.std.specs.declared.alloc.Global.{Global}
+use Rattle.finding_texts.specs.declared.verdict.Verdict.{Verdict}
 use Rattle.rsml_base.specs.declared.no_memory.NoMemory.{NoMemory}
+use Rattle.source_notes.specs.Comments.{AreComments}
 use Rattle.rsml_syntax.specs.grammar.Grammar.{tokens_of}
 use Rattle.rsml_syntax.specs.grammar.Layout.{layout}
 use Rattle.rsml_syntax.specs.declared.syntax.Spec.{Spec}
@@ -10,7 +12,7 @@ use Rattle.rsml.specs.Commands.{Bytes}
 use Rattle.rsml.specs.FaultLines as lines
 use Rattle.rsml.specs.Headline.{IsCertificate, IsRefusal}
 use Rattle.rsml.specs.Judgements.{IsBroken, IsJudgement}
-use Rattle.rsml.specs.Output.{CheckOutput, FormatOutput, MigrateOutput}
+use Rattle.rsml.specs.Output.{CheckOutput, ExplainOutput, FormatOutput, MigrateOutput}
 use Rattle.rsml.specs.Output as output
 use Rattle.rsml.specs.Steps.{IsOfText}
 use Rattle.rsml.specs.Texts.{IsTextOf, IsUnread, IsTextByFirst, IsUnreadByFirst}
@@ -55,11 +57,12 @@ broken_output text j line o e h s t =
     let is : IsJudgement text (judgement.Broken line) = subst (IsJudgement text) e h in
     output.judged is.0 is.1 (output.broken (subst (λ (v : Vec ℕ Global). IsBroken is.0 v.items) (sym t) is.2) s)
 
-pub refused_output : (text : Bytes) (j : Judgement) (report : Vec ℕ Global) (o : Outcome) → j ≡ judgement.Refused report → IsJudgement text j
-    → o.status ≡ status.Refused → o.text ≡ report → CheckOutput text o.status o.text.items
-refused_output text j report o e h s t =
-    let is : IsJudgement text (judgement.Refused report) = subst (IsJudgement text) e h in
-    output.judged is.0 is.1 (output.refused is.2.0 (subst (λ (v : Vec ℕ Global). IsRefusal is.0 v.items) (sym t) is.2.1) s)
+pub refused_output : (text : Bytes) (j : Judgement) (report : Vec ℕ Global) (spec : Spec) (verdicts : Vec Verdict Global) (o : Outcome)
+    → j ≡ judgement.Refused report spec verdicts → IsJudgement text j → o.status ≡ status.Refused → o.text ≡ report
+    → CheckOutput text o.status o.text.items
+refused_output text j report spec verdicts o e h s t =
+    let is : IsJudgement text (judgement.Refused report spec verdicts) = subst (IsJudgement text) e h in
+    output.judged is.0 is.1 (output.refused is.2.1 (subst (λ (v : Vec ℕ Global). IsRefusal is.0 v.items) (sym t) is.2.2) s)
 
 pub certified_output : (text : Bytes) (j : Judgement) (report : Vec ℕ Global) (spec : Spec) (o : Outcome) → j ≡ judgement.Certified report spec → IsJudgement text j
     → o.status ≡ status.Done → o.text ≡ report → CheckOutput text o.status o.text.items
@@ -92,3 +95,22 @@ migrated_output text s (Err x) is e t = e
 pub first_fault_output : (text : Bytes) (line : Vec ℕ Global) (o : Outcome) → IsUnreadByFirst text line.items → o.status ≡ status.SpecFault → o.text ≡ line
     → MigrateOutput text o.status o.text.items
 first_fault_output text line o is e t = output.MigrateOutput.unread (subst (λ (v : Vec ℕ Global). IsUnreadByFirst text v.items) (sym t) is) e
+
+-- what `explain` comes to
+
+pub explained_output : (text notes : Bytes) (o : Outcome) (r : Result Outcome NoMemory) → CheckOutput text o.status o.text.items → AreComments notes
+    → IfOk r (λ x. x.text.items ≡ o.text.items ++ notes) → IfOk r (λ x. x.status ≡ o.status)
+    → IfOk r (λ x. ExplainOutput text x.status x.text.items)
+explained_output text notes o (Ok x) checked are t s = record {
+  report = o.text.items;
+  notes = notes;
+  split = t;
+  checked = subst (λ (a : Status). CheckOutput text a o.text.items) (sym s) checked;
+  comments = are;
+}
+explained_output text notes o (Err x) checked are t s = t
+
+pub explained_of_text : (o : Outcome) (r : Result Outcome NoMemory) → IsOfText o.status → IfOk r (λ x. x.status ≡ o.status)
+    → IfOk r (λ x. IsOfText x.status)
+explained_of_text o (Ok x) is s = subst (λ (a : Status). IsOfText a) (sym s) is
+explained_of_text o (Err x) is s = s

@@ -3,6 +3,7 @@ use Rattle.std.proofs.Common.{◌≡◌, ◌≢◌, ℕ, Vec, length, refl, sym,
 use Rattle.std.proofs.lemmas.List.{length-map}
 use Rattle.std.specs.Prelude.{IfSome}
 use Rattle.std.specs.declared.alloc.Global.{Global}
+use Rattle.finding_texts.specs.declared.verdict.Verdict.{Verdict}
 use Rattle.rsml_ground.specs.Grounded.{IsShort}
 use Rattle.rsml_meaning.specs.EventFiles.{Limits, program_limits}
 use Rattle.rsml_syntax.specs.declared.edition.Edition.TheVariants as edition
@@ -43,7 +44,7 @@ not_certified (judgement.Certified report checked) n h = n report checked refl
 not_certified judgement.TooLong n h = h
 not_certified (judgement.Unread line) n h = h
 not_certified (judgement.Broken line) n h = h
-not_certified (judgement.Refused report) n h = h
+not_certified (judgement.Refused report checked verdicts) n h = h
 
 -- what a simulation starts with, where the judgement is no certificate
 pub starts_stopped : (text : Bytes) (j : Judgement) (o : Outcome) → IsOther j → IsOfText o.status → (o.status ≡ status.Done → IsCertified j)
@@ -66,6 +67,19 @@ short_text text s t =
     let long = length-map t.reads.0 (λ (p : Placed). p.token) in
     let short = t.short in
     omega (arith, few, same, long, short)
+
+-- so is one that is judged to be a refused or a certified specification
+pub refused_is_short : (text : Bytes) (j : Judgement) (report : Vec ℕ Global) (checked : Spec) (verdicts : Vec Verdict Global)
+    → j ≡ judgement.Refused report checked verdicts → IsJudgement text j → IsShort checked
+refused_is_short text j report checked verdicts e h =
+    let is : IsJudgement text (judgement.Refused report checked verdicts) = subst (IsJudgement text) e h in
+    subst (λ (s : Spec). IsShort s) (sym is.2.0) (short_text text is.0 is.1)
+
+pub certified_is_short : (text : Bytes) (j : Judgement) (report : Vec ℕ Global) (checked : Spec) → j ≡ judgement.Certified report checked
+    → IsJudgement text j → IsShort checked
+certified_is_short text j report checked e h =
+    let is : IsJudgement text (judgement.Certified report checked) = subst (IsJudgement text) e h in
+    subst (λ (s : Spec). IsShort s) (sym is.2.0) (short_text text is.0 is.1)
 
 -- a simulation with the limits of the program
 pub with_limits : (s t : Spec) (l : Limits) (m : simulation.Meeting) (ended : SimEnd) → s ≡ t → l ≡ program_limits

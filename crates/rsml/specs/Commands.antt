@@ -13,9 +13,12 @@ Bytes = List ℕ
 abbrev pub action_of : Bytes → Option Action
 action_of word = elim (same word (codes "check")) [
   | true ↦ Some action.Check
-  | false ↦ elim (same word (codes "format")) [
-    | true ↦ Some action.Format
-    | false ↦ elim (same word (codes "migrate")) [ true ↦ Some action.Migrate | false ↦ None ]
+  | false ↦ elim (same word (codes "explain")) [
+    | true ↦ Some action.Explain
+    | false ↦ elim (same word (codes "format")) [
+      | true ↦ Some action.Format
+      | false ↦ elim (same word (codes "migrate")) [ true ↦ Some action.Migrate | false ↦ None ]
+    ]
   ]
 ]
 

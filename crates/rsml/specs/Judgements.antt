@@ -4,6 +4,7 @@ use Rattle.rsml_syntax.specs.declared.syntax.Spec.{Spec}
 use Rattle.rsml_syntax.specs.limits.Limits.{Keeps, over}
 use Rattle.rsml_syntax.specs.rules.Breaches.{Breach}
 use Rattle.rsml_syntax.specs.rules.Rules.{broken_rule}
+use Rattle.analysis.specs.Verdicts.{AreVerdicts}
 use Rattle.rsml.specs.Commands.{Bytes}
 use Rattle.rsml.specs.FaultLines as lines
 use Rattle.rsml.specs.Headline.{IsCertificate, IsRefusal}
@@ -21,7 +22,7 @@ abbrev pub IsJudged : Spec → Judgement → Type 0
 IsJudged s judgement.TooLong = ⊥
 IsJudged s (judgement.Unread line) = ⊥
 IsJudged s (judgement.Broken line) = IsBroken s line.items
-IsJudged s (judgement.Refused report) = Keeps s × IsRefusal s report.items
+IsJudged s (judgement.Refused report checked verdicts) = (checked ≡ s) × Keeps s × IsRefusal s report.items × AreVerdicts s verdicts.items
 IsJudged s (judgement.Certified report checked) = (checked ≡ s) × Keeps s × IsCertificate s report.items
 
 -- the text reads as a specification that is judged so
@@ -33,5 +34,5 @@ abbrev pub IsJudgement : Bytes → Judgement → Type 0
 IsJudgement text judgement.TooLong = greatest_text < length text
 IsJudgement text (judgement.Unread line) = IsUnread text line.items
 IsJudgement text (judgement.Broken line) = ReadsAndIsJudged text (judgement.Broken line)
-IsJudgement text (judgement.Refused report) = ReadsAndIsJudged text (judgement.Refused report)
+IsJudgement text (judgement.Refused report checked verdicts) = ReadsAndIsJudged text (judgement.Refused report checked verdicts)
 IsJudgement text (judgement.Certified report checked) = ReadsAndIsJudged text (judgement.Certified report checked)

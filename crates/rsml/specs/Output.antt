@@ -1,5 +1,5 @@
 -- What a command answers and writes, by what its files hold.
-use Rattle.std.specs.Prelude.{◌≡◌, ◌≢◌, ℕ, ◌<◌, List, length, Some, None}
+use Rattle.std.specs.Prelude.{◌≡◌, ◌≢◌, ℕ, ◌<◌, ◌++◌, List, length, Some, None}
 use Rattle.rsml_syntax.specs.declared.syntax.Spec.{Spec}
 use Rattle.rsml_syntax.specs.grammar.Grammar.{tokens_of}
 use Rattle.rsml_syntax.specs.grammar.Layout.{layout}
@@ -9,6 +9,7 @@ use Rattle.one_run.specs.Deterministic.{IsDeterministic}
 use Rattle.simulator.specs.Outputs as simulation
 use Rattle.simulator.specs.declared.sim_end.SimEnd.{SimEnd}
 use Rattle.simulator.specs.declared.sim_end.SimEnd.TheVariants as end
+use Rattle.source_notes.specs.Comments.{AreComments}
 use Rattle.rsml.specs.Commands.{Bytes, act, simulate, demo, command_of}
 use Rattle.rsml.specs.FaultLines as lines
 use Rattle.rsml.specs.Headline.{IsCertificate, IsRefusal}
@@ -33,6 +34,14 @@ pub data CheckOutput (text : Bytes) (answer : Status) (bytes : Bytes) : Type 0 w
   unread : IsUnread text bytes → answer ≡ status.SpecFault → CheckOutput text answer bytes
   judged : (s : Spec) → IsTextOf text s → SpecificationOutput s answer bytes → CheckOutput text answer bytes
 
+-- What `explain` answers and writes: what `check` does, and comment lines behind it.
+pub record ExplainOutput (text : Bytes) (answer : Status) (bytes : Bytes) : Type 0 where
+  pub report : Bytes
+  pub notes : Bytes
+  pub split : bytes ≡ report ++ notes
+  pub checked : CheckOutput text answer report
+  pub comments : AreComments notes
+
 -- What `format` answers and writes: the layout of the specification that the text reads as. The rules are not judged.
 pub data FormatOutput (text : Bytes) (answer : Status) (bytes : Bytes) : Type 0 where
   too_long : greatest_text < length text → answer ≡ status.TooLong → bytes ≡ lines.long → FormatOutput text answer bytes
@@ -49,6 +58,7 @@ pub data MigrateOutput (text : Bytes) (answer : Status) (bytes : Bytes) : Type 0
 -- what an action comes to on a text
 abbrev pub ActionOutput : Action → Bytes → Status → Bytes → Type 0
 ActionOutput action.Check = CheckOutput
+ActionOutput action.Explain = ExplainOutput
 ActionOutput action.Format = FormatOutput
 ActionOutput action.Migrate = MigrateOutput
 

@@ -9,6 +9,8 @@ use crate::units::units_in;
 pub enum Action {
     /// Analyses it, and writes the report.
     Check,
+    /// Does the same, and writes comment lines behind the report.
+    Explain,
     /// Writes its layout.
     Format,
     /// Reads it by the first edition of the notation, renames its name `previous`, and writes the layout.
@@ -32,6 +34,9 @@ fn action_called(word: &str) -> Option<Action>
 {
     if word == "check" {
         return Some(Action::Check);
+    }
+    if word == "explain" {
+        return Some(Action::Explain);
     }
     if word == "format" {
         return Some(Action::Format);

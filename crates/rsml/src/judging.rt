@@ -5,7 +5,8 @@ ghost use Rattle.rsml.specs.Judgements.{IsJudged, IsJudgement};
 
 use crate::fault_lines::rule_fault;
 use crate::texts::{ReadText, read_text};
-use analysis::analysis;
+use analysis::{Analysed, analysis};
+use finding_texts::Verdict;
 use one_run::{certified_specifications_are_deterministic, last_lines_tell_the_verdict};
 use rsml_lexer::GREATEST_TEXT;
 use rsml_report::Report;
@@ -19,13 +20,25 @@ pub enum Judgement {
     /// They are more than 1,048,576.
     TooLong,
     /// They read as no specification; the line tells their first fault.
-    Unread { line: Vec<u8> },
+    Unread {
+        line: Vec<u8>,
+    },
     /// The specification breaks a rule or a limit; the line tells the lowest.
-    Broken { line: Vec<u8> },
-    /// The specification is not certified; the report tells what was found.
-    Refused { report: Vec<u8> },
+    Broken {
+        line: Vec<u8>,
+    },
+    /// The specification is not certified; the report tells what was found. The specification is given back with its report, and
+    /// with what was found of each of its groups, in order.
+    Refused {
+        report: Vec<u8>,
+        checked: Checked,
+        verdicts: Vec<Verdict>,
+    },
     /// The specification is certified. It is given back with its report.
-    Certified { report: Vec<u8>, checked: Checked },
+    Certified {
+        report: Vec<u8>,
+        checked: Checked,
+    },
 }
 
 /// That the specification is certified.
@@ -33,6 +46,17 @@ fn certificate(report: Vec<u8>, checked: Checked) -> Judgement
     ensures { result ≡ Judgement.Certified report checked }
 {
     Judgement::Certified { report, checked }
+}
+
+/// That the specification is not certified.
+fn refusal(report: Vec<u8>, checked: Checked, verdicts: Vec<Verdict>) -> Judgement
+    ensures { result ≡ Judgement.Refused report checked verdicts }
+{
+    Judgement::Refused {
+        report,
+        checked,
+        verdicts,
+    }
 }
 
 /// Judges a specification that keeps the rules and the limits.
@@ -43,11 +67,12 @@ fn analyse(alloc: Global, checked: Checked) -> Result<Judgement, NoMemory>
     certified_specifications_are_deterministic();
     last_lines_tell_the_verdict();
     let _ = checked.spec();
-    let Report { text, certified } = analysis(alloc, &checked)?;
+    let Analysed { report, verdicts } = analysis(alloc, &checked)?;
+    let Report { text, certified } = report;
     if certified {
         Ok(certificate(text, checked))
     } else {
-        Ok(Judgement::Refused { report: text })
+        Ok(refusal(text, checked, verdicts))
     }
 }
 

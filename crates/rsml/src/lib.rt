@@ -3,6 +3,7 @@
 
 mod command;
 mod demonstrating;
+mod explaining;
 mod fault_lines;
 mod finishing;
 mod judging;

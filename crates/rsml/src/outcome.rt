@@ -8,6 +8,7 @@ ghost use Rattle.rsml.specs.Output.{ActionOutput, CheckOutput, FormatOutput, Mig
 ghost use Rattle.rsml.specs.Steps.{IsCertified, IsOfText};
 
 use crate::command::Action;
+use crate::explaining::explain;
 use crate::judging::{Judgement, judge};
 use crate::status::Status;
 use crate::texts::{ReadText, read_first_edition, read_text};
@@ -49,7 +50,7 @@ pub fn judged(alloc: Global, judgement: Judgement) -> Result<Outcome, NoMemory>
         Judgement::TooLong => too_long(alloc),
         Judgement::Unread { line } => Ok(with_text(Status::SpecFault, line)),
         Judgement::Broken { line } => Ok(with_text(Status::SpecFault, line)),
-        Judgement::Refused { report } => Ok(with_text(Status::Refused, report)),
+        Judgement::Refused { report, .. } => Ok(with_text(Status::Refused, report)),
         Judgement::Certified { report, .. } => Ok(with_text(Status::Done, report)),
     }
 }
@@ -101,13 +102,19 @@ fn migrate(alloc: Global, text: &[u8]) -> Result<Outcome, NoMemory>
     }
 }
 
-/// What an action comes to on a text.
-pub fn outcome_of(alloc: Global, action: Action, text: &[u8]) -> Result<Outcome, NoMemory>
+/// What an action comes to on the text of a file with this name.
+pub fn outcome_of(
+    alloc: Global,
+    action: Action,
+    file: &[u8],
+    text: &[u8],
+) -> Result<Outcome, NoMemory>
     ensures output { IfOk result (λ o. ActionOutput action text.now o.status o.text.items) }
     ensures status { IfOk result (λ o. IsOfText o.status) }
 {
     match action {
         Action::Check => check(alloc, text),
+        Action::Explain => explain(alloc, file, text),
         Action::Format => format(alloc, text),
         Action::Migrate => migrate(alloc, text),
     }

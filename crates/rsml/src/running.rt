@@ -38,15 +38,15 @@ fn act<F: Files, K: Sink>(
     ensures contents { (name : List ℕ) → F.contents files.new name ≡ F.contents files.old name }
 {
     match read_all(alloc, files, file, GREATEST_FILE) {
-        Ok(text) => act_on(alloc, action, text.as_slice(), sink),
+        Ok(text) => act_on(alloc, action, file.as_bytes(), text.as_slice(), sink),
         Err(ReadError::NoMemory) => Status::NoMemory,
         Err(ReadError::ReadFault) => finish(sink, b"fault read\n", Status::ReadFault),
         Err(ReadError::TooLong) => finish(sink, b"fault long\n", Status::TooLong),
     }
 }
 
-/// Writes what the action comes to on a text.
-fn act_on<K: Sink>(alloc: Global, action: Action, text: &[u8], sink: &mut K) -> Status
+/// Writes what the action comes to on the text of a file with this name.
+fn act_on<K: Sink>(alloc: Global, action: Action, file: &[u8], text: &[u8], sink: &mut K) -> Status
     ensures { steps.HasActedOn action text.now (record {
       written = K.written sink.old;
       written_after = K.written sink.new;
@@ -54,7 +54,7 @@ fn act_on<K: Sink>(alloc: Global, action: Action, text: &[u8], sink: &mut K) -> 
       refusals_after = K.faults sink.new;
     }) result }
 {
-    match outcome_of(alloc, action, text) {
+    match outcome_of(alloc, action, file, text) {
         Ok(outcome) => finish(sink, outcome.text.as_slice(), outcome.status),
         Err(NoMemory) => Status::NoMemory,
     }

@@ -8,7 +8,7 @@ pub returns-in-Broken-clause-output : goal.returns-in-Broken-clause-output
 returns-in-Broken-clause-output c = λ text h. broken_output text _ _ _ c.in-Broken.is h c.with_text-in-Broken.ensures.status c.with_text-in-Broken.ensures.text
 
 pub returns-in-Refused-clause-output : goal.returns-in-Refused-clause-output
-returns-in-Refused-clause-output c = λ text h. refused_output text _ _ _ c.in-Refused.is h c.with_text-in-Refused.ensures.status c.with_text-in-Refused.ensures.text
+returns-in-Refused-clause-output c = λ text h. refused_output text _ _ _ _ _ c.in-Refused.is h c.with_text-in-Refused.ensures.status c.with_text-in-Refused.ensures.text
 
 pub returns-clause-output : goal.returns-clause-output
 returns-clause-output c = λ text h. certified_output text _ _ _ _ c.in-Certified.is h c.with_text-in-Certified.ensures.status c.with_text-in-Certified.ensures.text
