@@ -458,3 +458,18 @@ lines() {
     for (t = 0; t < 4192; t++) put("stay S13 on E0 when{X" t % 64 "<" t % 8 + 1 "|T;X" t % 64 ">" t % 8 + 1 "|T;};")
     put("}"); for (i = 0; i < 12; i++) put("}")'
 }
+
+# levels: 1,024 inputs of the widest range. Macros compare half of them with the other half, so that their levels are as many as they can
+# be. Every input is read by the guards of the transitions on one event, 64 to a guard: a diagram of them all has a level for each weight
+# of each input.
+levels() {
+  written 'put("specification A;event E0;range R -1000000000..1000000000;"); for (i = 0; i < 1024; i++) put("input X" i ":R=0;")
+    for (t = 0; t < 8; t++) {
+      put("macro M" t "{"); for (i = 0; i < 64; i++) put("X" t * 64 + i "<X" 512 + t * 64 + i "|T;"); put("}") }
+    put("receive I(X0)raise E0;state A one{default B;state B;")
+    for (t = 0; t < 16; t++) {
+      put("stay B on E0 when{")
+      for (i = 0; i < 64; i++) put("X" t * 64 + i "<" (below(2) ? "" : "-") below(1000000000) "|T;")
+      put("};") }
+    put("}")'
+}

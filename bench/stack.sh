@@ -1,0 +1,52 @@
+#!/usr/bin/env bash
+# The stack that whole checks take: bench/stack.sh [PROGRAM]
+# A line for each specification: its bytes, cells and groups, and the least stack, in KiB and in steps of 64, with which `PROGRAM check`
+# still ends; the aim is 8,192 KiB, what a process usually has. Without PROGRAM, or with -, it is the one that the environment's PROGRAM
+# names, or else is built.
+#
+# The recursions over diagrams go as deep as a function has levels, those over states and definitions as deep as these stand in one another.
+# The texts are those at the limits in which they go deepest: 1,024 inputs of the widest range, all read by the guards of one group;
+# 4,044 states, nearly all of them 14 deep; a chain of macros; and one with a comparison of all cells.
+#
+# It ends with status 1 where a check does not end with 8,192 KiB.
+set -eu
+cd "$(dirname "$0")/.."
+program=${1:--}
+[ "$program" != - ] || program=${PROGRAM:--}
+work=$(mktemp -d)
+trap 'rm -rf "$work"' EXIT
+. bench/texts.sh
+
+if [ "$program" = - ]; then
+  (cd crates/rsml_main && rt run -- check ../../examples/lamp.rsml > "$work/error" 2>&1) || { tail -n 5 "$work/error"; exit 1; }
+  program=crates/rsml_main/out/rsml_main
+fi
+
+# ends KIB FILE: whether a check of a file ends, with so much stack.
+ends() {
+  local status=0
+  (ulimit -s "$1" && exec "$program" check "$2" > "$work/output" 2> "$work/error") || status=$?
+  [ "$status" -le 1 ]
+}
+
+levels > "$work/levels"
+states > "$work/states"
+demo 64 > "$work/demo_64"
+star 30 mistaken > "$work/star_30_mistaken"
+written 'put("specification A;event E0;"); inputs(1); put("receive I(X0)raise E0;macro M0{X0<1|T;}")
+  for (m = 1; m < 8192; m++) put("macro M" m "{macro M" m - 1 "|T;}")
+  put("state A one{default B;state B;stay B on E0 when{macro M8191|T;};stay B on E0 when{macro M8191|F;};}")' > "$work/macros"
+
+status=0
+printf '%-18s %8s %7s %7s %10s\n' specification bytes cells groups 'stack KiB'
+for name in levels states macros demo_64 star_30_mistaken; do
+  if ! ends 8192 "$work/$name"; then echo "$name: not within 8192 KiB"; status=1; continue; fi
+  low=0 high=8192
+  while [ $((high - low)) -gt 64 ]; do
+    middle=$(((low + high) / 128 * 64))
+    if ends "$middle" "$work/$name"; then high=$middle; else low=$middle; fi
+  done
+  printf '%-18s %8s %7s %7s %10s\n' "$name" "$(stat -c %s "$work/$name")" "$(grep -o 'input ' "$work/$name" | wc -l)" \
+    "$(awk '$1 == "groups" { print $2; exit }' "$work/output")" "$high"
+done
+exit "$status"
