@@ -1,11 +1,11 @@
 #!/bin/sh
 # Tells where what PROGRAM writes of the whole specifications among the examples differs from what is stored beside them.
 #
-#     tools/same_texts.sh PROGRAM         compares the reports and the traces of each folder of examples/
-#     tools/same_texts.sh PROGRAM check   compares the reports alone
+#     tools/same_texts.sh PROGRAM         compares the reports, the explanations and the traces of each folder of examples/
+#     tools/same_texts.sh PROGRAM check   compares all but the traces
 #
-# In a folder NAME with a file NAME.rsml these are NAME.report and mistaken.report, of NAME.rsml and mistaken.rsml, and NAME.trace, of NAME.rsml with
-# NAME.events. The last line is `N texts same, M different`.
+# In a folder NAME with a file NAME.rsml these are NAME.report and mistaken.report, of NAME.rsml and mistaken.rsml, NAME.explained and
+# mistaken.explained, what `explain` writes of the two, and NAME.trace, of NAME.rsml with NAME.events. The last line is `N texts same, M different`.
 set -u
 case ${1:?"PROGRAM is missing"} in
     /*) program=$1 ;;
@@ -40,6 +40,8 @@ for folder in */; do
     [ -f "$name/$name.rsml" ] || continue
     compare "$name/$name.report" 0 check "$name/$name.rsml"
     compare "$name/mistaken.report" 1 check "$name/mistaken.rsml"
+    compare "$name/$name.explained" 0 explain "$name/$name.rsml"
+    compare "$name/mistaken.explained" 1 explain "$name/mistaken.rsml"
     [ "$commands" = check ] || compare "$name/$name.trace" 0 simulate "$name/$name.rsml" "$name/$name.events"
 done
 printf '%s texts same, %s different\n' $same $different
