@@ -6,7 +6,8 @@
 #
 # The recursions over diagrams go as deep as a function has levels, those over states and definitions as deep as these stand in one another.
 # The texts are those at the limits in which they go deepest: 1,024 inputs of the widest range, all read by the guards of one group;
-# 4,044 states, nearly all of them 14 deep; a chain of macros; and one with a comparison of all cells.
+# 4,044 states, nearly all of them 14 deep; a chain of macros;
+# 64 units of the demo; and thirty heights that are compared with one.
 #
 # It ends with status 1 where a check does not end with 8,192 KiB.
 set -eu

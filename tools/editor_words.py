@@ -63,7 +63,7 @@ def matched(line):
 
 
 def listed_by_vim(lines):
-    """The list of places that vim makes of lines."""
+    """The list of places that vim makes of lines, or None where this vim runs no scripts."""
     with tempfile.TemporaryDirectory() as folder:
         answer, output = os.path.join(folder, "answer"), os.path.join(folder, "output")
         with open(output, "w", encoding="utf-8") as file:
@@ -81,6 +81,8 @@ def listed_by_vim(lines):
         with open(script, "w", encoding="utf-8") as file:
             file.write("\n".join(commands) + "\n")
         subprocess.run(["vim", "-u", "NONE", "-N", "-es", "-S", script], check=False, cwd=folder)
+        if not os.path.exists(answer):
+            return None
         with open(answer, encoding="utf-8") as file:
             places = json.load(file)
     return [(name, line, column, text, kind == "n") for name, line, column, text, kind in places]
@@ -102,7 +104,9 @@ def main():
         same(f"VS Code on {line!r}", matched(line), [])
     if shutil.which("vim"):
         mixed = [line for line, _ in LINES] + OTHERS
-        same("Vim", listed_by_vim(mixed), [place for _, place in LINES])
+        listed = listed_by_vim(mixed)
+        if listed is not None:
+            same("Vim", listed, [place for _, place in LINES])
     for line in wrong:
         print(line)
     print(f"{len(words)} words, {len(LINES) + len(OTHERS)} lines: " + ("as they should be" if not wrong else f"{len(wrong)} differ"))
