@@ -1,12 +1,12 @@
 -- What is stored of transitions and cases of sends.
-use Rattle.std.proofs.Common.{◌≡◌, ℕ, zero, suc, ◌<◌, List, [], ◌∷◌, map, length, get_or, Some, slice_get, refl, sym, ap, ◌∙◌, subst, arith}
+use Rattle.std.proofs.Common.{◌≡◌, ℕ, zero, suc, ◌<◌, List, [], ◌∷◌, map, length, get_or, Some, slice_get, sym, ap, ◌∙◌, subst, arith}
 use Rattle.std.specs.List.{All, AllZip}
 use Rattle.std.proofs.lemmas.Option.{same_Some}
 use Rattle.rsml_syntax.specs.declared.syntax.Spec.{Spec}
 use Rattle.rsml_meaning.specs.Words.{Each}
 use Rattle.rsml_meaning.specs.Instances.{events}
-use Rattle.rsml_meaning.specs.Transitions.{TransitionInstance, transitions}
-use Rattle.rsml_meaning.specs.Interfaces.{SendCaseInstance, send_cases}
+use Rattle.rsml_meaning.specs.Transitions.{transitions}
+use Rattle.rsml_meaning.specs.Interfaces.{send_cases}
 use Rattle.rsml_ground.specs.declared.definitions.Definition.{Definition}
 use Rattle.rsml_ground.specs.declared.definitions.GroundGuard.{GroundGuard}
 use Rattle.rsml_ground.specs.declared.definitions.GroundGuard.TheVariants as guards
@@ -16,7 +16,7 @@ use Rattle.rsml_ground.specs.Numbers.{Keeps}
 use Rattle.rsml_ground.specs.Rests.{GuardFits}
 use Rattle.rsml_ground.specs.Truths.{Grounded}
 use Rattle.macros.specs.Tables.{with_parts}
-use Rattle.macros.specs.Guards.{HasShape, GuardBelow}
+use Rattle.macros.specs.Guards.{GuardBelow}
 use Rattle.macros.proofs.Below.{each_all}
 use Rattle.phrase_builder.proofs.Lists.{get_below}
 use Rattle.ground_members.specs.declared.transitions.GroundTransition.{GroundTransition}
@@ -39,19 +39,9 @@ zip_each P Q f [] (y ∷ ys) z = absurd z
 zip_each P Q f (x ∷ xs) [] z = absurd z
 zip_each P Q f (x ∷ xs) (y ∷ ys) z = (f x y z.0, zip_each P Q f xs ys z.1)
 
-guard_shape : (n : ℕ) (g : GroundGuard) → GuardFits n g → HasShape g
-guard_shape n guards.Always f = tt
-guard_shape n (guards.Table table) f = f.shape
-
 guard_below : (n : ℕ) (g : GroundGuard) → GuardFits n g → GuardBelow n g
 guard_below n guards.Always f = tt
 guard_below n (guards.Table table) f = f.below
-
-pub transition_shapes : (ps : List GroundPhrase) (s : Spec) (xs : List GroundTransition) → AreTransitions ps s xs → All (λ x. HasShape x.guard) xs
-transition_shapes ps s xs are = each_all (λ x. HasShape x.guard) xs (zip_each (TransitionIs ps s) (λ x. HasShape x.guard) (λ t x is. guard_shape (length ps) x.guard is.fits) (transitions s) xs are)
-
-pub case_shapes : (ps : List GroundPhrase) (s : Spec) (xs : List GroundSendCase) → AreSendCases ps s xs → All (λ x. HasShape x.guard) xs
-case_shapes ps s xs are = each_all (λ x. HasShape x.guard) xs (zip_each (SendCaseIs ps s) (λ x. HasShape x.guard) (λ t x is. guard_shape (length ps) x.guard is.fits) (send_cases s) xs are)
 
 pub transition_guards_below : (ps : List GroundPhrase) (s : Spec) (xs : List GroundTransition) → AreTransitions ps s xs → Each (λ x. GuardBelow (length ps) x.guard) xs
 transition_guards_below ps s xs are = zip_each (TransitionIs ps s) (λ x. GuardBelow (length ps) x.guard) (λ t x is. guard_below (length ps) x.guard is.fits) (transitions s) xs are
@@ -79,30 +69,23 @@ both_stand ps qs s ds ts cs are keeps grounded cases = record {
 }
 
 -- all that is stored
-pub all_stored : (s : Spec) (ps : List GroundPhrase) (ds : List Definition) (ts us vs : List GroundTransition) (cs ds' es : List GroundSendCase) (g : Grounded) (n : ℕ) (gs : List GroundGuard) (on : List (List ℕ)) (m : ℕ) (hs : List GroundGuard)
-    (cases : List (List ℕ)) (count : ℕ) → StandsFor (of_parts s ps ds ts cs) → g ≡ with_parts s ps ds → count ≡ length (events s) → n ≡ length ts → m ≡ length cs → us ≡ ts → vs ≡ ts → ds' ≡ cs → es ≡ cs
-    → gs ≡ map (λ x. x.guard) us → AreOn count (map (λ x. x.event) vs) on → hs ≡ map (λ x. x.guard) ds' → AreOn count (map (λ x. x.event) es) cases
-    → AreMembers (machine_of g ts cs) n gs on m hs cases
-all_stored s ps ds ts us vs cs ds' es g n gs on m hs cases count stands e few many more u v d k guards ons case_guards case_ons =
-    subst (λ (x : Grounded). AreMembers (machine_of x ts cs) n gs on m hs cases) (sym e) (record {
+pub all_stored : (s : Spec) (ps : List GroundPhrase) (ds : List Definition) (ts us : List GroundTransition) (cs es : List GroundSendCase) (g : Grounded) (n : ℕ) (on : List (List ℕ)) (m : ℕ) (cases : List (List ℕ)) (count : ℕ)
+    → StandsFor (of_parts s ps ds ts cs) → g ≡ with_parts s ps ds → count ≡ length (events s) → n ≡ length ts → m ≡ length cs → us ≡ ts → es ≡ cs
+    → AreOn count (map (λ x. x.event) us) on → AreOn count (map (λ x. x.event) es) cases → AreMembers (machine_of g ts cs) n on m cases
+all_stored s ps ds ts us cs es g n on m cases count stands e few many more u k ons case_ons =
+    subst (λ (x : Grounded). AreMembers (machine_of x ts cs) n on m cases) (sym e) (record {
       stands = stands;
       count_is = many;
       case_count_is = more;
-      guards_are = guards ∙ ap (λ xs. map (λ x. x.guard) xs) u;
-      transitions_on_are = subst (λ (c : ℕ). AreOn c (map (λ x. x.event) ts) on) few (subst (λ (xs : List GroundTransition). AreOn count (map (λ x. x.event) xs) on) v ons);
-      case_guards_are = case_guards ∙ ap (λ xs. map (λ x. x.guard) xs) d;
+      transitions_on_are = subst (λ (c : ℕ). AreOn c (map (λ x. x.event) ts) on) few (subst (λ (xs : List GroundTransition). AreOn count (map (λ x. x.event) xs) on) u ons);
       cases_on_are = subst (λ (c : ℕ). AreOn c (map (λ x. x.event) cs) cases) few (subst (λ (xs : List GroundSendCase). AreOn count (map (λ x. x.event) xs) cases) k case_ons);
     })
 
--- the guard at a place, and the phrases that it is over
-pub guard_at : (A : Type 0) (f : A → GroundGuard) (n : ℕ) (xs : List A) (gs : List GroundGuard) (k : ℕ) (g : GroundGuard) → gs ≡ map f xs → Each (λ x. GuardBelow n (f x)) xs
-    → k < length xs → g ≡ get_or gs k g → (slice_get (map f xs) k ≡ Some g) × GuardBelow n g
-guard_at A f n xs gs k g e each l at = by xs k each l (at ∙ ap (λ (z : List GroundGuard). get_or z k g) e)
-  where
-    by : (ys : List A) (j : ℕ) → Each (λ x. GuardBelow n (f x)) ys → j < length ys → g ≡ get_or (map f ys) j g → (slice_get (map f ys) j ≡ Some g) × GuardBelow n g
-    by [] j each l at = absurd (omega (arith, l))
-    by (y ∷ ys) zero each l at = (ap Some (sym at), subst (GuardBelow n) (sym at) each.0)
-    by (y ∷ ys) (suc j) each l at = by ys j each.1 (omega (arith, l)) at
+-- the guard of what stands at a place, and the phrases that it is over
+pub guard_at : (A : Type 0) (f : A → GroundGuard) (n : ℕ) (xs : List A) (k : ℕ) (x : A) (g : GroundGuard) → Each (λ x. GuardBelow n (f x)) xs → k < length xs → x ≡ get_or xs k x → g ≡ f x → (slice_get (map f xs) k ≡ Some g) × GuardBelow n g
+guard_at A f n [] k x g each l at is = absurd (omega (arith, l))
+guard_at A f n (y ∷ xs) zero x g each l at is = let e : g ≡ f y = is ∙ ap f at in (ap Some (sym e), subst (GuardBelow n) (sym e) each.0)
+guard_at A f n (y ∷ xs) (suc k) x g each l at is = guard_at A f n xs k x g each.1 (omega (arith, l)) at is
 
 -- the list at a place
 pub on_at : (A : Type 0) (f : A → List ℕ) (ps : List A) (i : ℕ) (v : A) (xs : List ℕ) → i < length ps → v ≡ get_or ps i v → slice_get (map f ps) i ≡ Some xs → f v ≡ xs

@@ -4,7 +4,6 @@
 mod behaviour;
 mod count;
 mod external;
-mod guards;
 mod instances;
 mod laws;
 mod machine;

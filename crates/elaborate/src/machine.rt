@@ -17,7 +17,7 @@ use crate::count::event_count;
 use crate::instances::Instances;
 use crate::receives::Receives;
 use ground_groups::Groups;
-use ground_members::{GroundSendCase, GroundTransition};
+use ground_members::{SharedSendCase, SharedTransition};
 use interfaces::Interfaces;
 use macros::{FastGuard, Macros};
 use rsml_syntax::{Checked, NoMemory, World};
@@ -52,6 +52,24 @@ impl<'a> Model for Machine<'a> {
     ghost invariant = { λ m. (m.instances ≡ m.behaviour.base.spec) × (m.receives ≡ m.behaviour.base.spec) };
 }
 
+/// The receives of a specification with so many events, and how it behaves.
+fn parts<'a>(
+    alloc: Global,
+    checked: &'a Checked,
+    numbers: &Instances<'_>,
+    events: u32,
+) -> Result<(Receives<'a>, Behaviour<'a>), NoMemory>
+    requires numbers { numbers.now ≡ checked.now }
+    requires short { IsShort checked.now }
+    requires events { events ≡ length (instances.events checked.now) }
+    ensures receives { IfOk result (λ p. p.0 ≡ checked.now) }
+    ensures behaviour { IfOk result (λ p. p.1.base.spec ≡ checked.now) }
+{
+    let receives = Receives::new(alloc, checked, numbers.names(), events)?;
+    let behaviour = Behaviour::new(alloc, checked, numbers, events)?;
+    Ok((receives, behaviour))
+}
+
 /// The machine of a checked specification of at most 2,097,152 tokens.
 pub fn elaborate<'a>(alloc: Global, checked: &'a Checked) -> Result<Machine<'a>, NoMemory>
     requires { IsShort checked.now }
@@ -59,8 +77,7 @@ pub fn elaborate<'a>(alloc: Global, checked: &'a Checked) -> Result<Machine<'a>,
 {
     let events = event_count(alloc, checked)?;
     let instances = Instances::new(alloc, checked)?;
-    let receives = Receives::new(alloc, checked, instances.names(), events)?;
-    let behaviour = Behaviour::new(alloc, checked, &instances, events)?;
+    let (receives, behaviour) = parts(alloc, checked, &instances, events)?;
     Ok(Machine {
         instances,
         receives,
@@ -171,14 +188,14 @@ impl<'a> Machine<'a> {
     }
 
     /// The transitions, each at the place of its number.
-    pub fn all_transitions(&self) -> &[GroundTransition]
+    pub fn all_transitions(&self) -> &[SharedTransition]
         ensures { result.now ≡ self.now.transitions }
     {
         self.behaviour.members().transitions()
     }
 
     /// A transition.
-    pub fn transition(&self, number: u32) -> &GroundTransition
+    pub fn transition(&self, number: u32) -> &SharedTransition
         requires { number < length self.now.transitions }
         ensures { slice_get self.now.transitions number ≡ Some result.now }
     {
@@ -211,14 +228,14 @@ impl<'a> Machine<'a> {
     }
 
     /// The cases of sends, each at the place of its number.
-    pub fn all_send_cases(&self) -> &[GroundSendCase]
+    pub fn all_send_cases(&self) -> &[SharedSendCase]
         ensures { result.now ≡ self.now.send_cases }
     {
         self.behaviour.members().send_cases()
     }
 
     /// A case of a send.
-    pub fn send_case(&self, number: u32) -> &GroundSendCase
+    pub fn send_case(&self, number: u32) -> &SharedSendCase
         requires { number < length self.now.send_cases }
         ensures { slice_get self.now.send_cases number ≡ Some result.now }
     {

@@ -5,26 +5,23 @@ ghost use Rattle.elaborate.specs.Machine.{StandsFor, of_parts};
 ghost use Rattle.elaborate.specs.OnEvents as spec;
 
 use crate::count::number_of;
-use crate::guards::{case_guards, transition_guards};
 use crate::on_events::{cases_on, transitions_on};
 use crate::written::Written;
-use ground_members::{GroundSendCase, GroundTransition};
+use ground_members::{SharedSendCase, SharedTransition};
 use macros::{FastGuard, Macros};
 use rsml_syntax::{NoMemory, Spec};
 use std::alloc::Global;
 use std::marker::Model;
 
-/// The phrases, transitions and cases of sends of a specification, with their guards prepared to be asked.
+/// The phrases, transitions and cases of sends of a specification, and what there is on each event.
 #[derive(Drop)]
 pub struct Members<'a> {
     macros: Macros<'a>,
-    transitions: Vec<GroundTransition>,
+    transitions: Vec<SharedTransition>,
     count: u32,
-    guards: Vec<FastGuard>,
     on: Vec<Vec<u32>>,
-    send_cases: Vec<GroundSendCase>,
+    send_cases: Vec<SharedSendCase>,
     case_count: u32,
-    case_guards: Vec<FastGuard>,
     cases_on: Vec<Vec<u32>>,
 }
 
@@ -42,12 +39,11 @@ impl<'a> Model for Members<'a> {
     ghost view = { λ m. machine_of m.macros m.transitions.items m.send_cases.items };
 
     ghost invariant = { λ m. AreMembers (machine_of m.macros m.transitions.items m.send_cases.items)
-        m.count m.guards.items (map (λ l. l.items) m.on.items)
-        m.case_count m.case_guards.items (map (λ l. l.items) m.cases_on.items) };
+        m.count (map (λ l. l.items) m.on.items) m.case_count (map (λ l. l.items) m.cases_on.items) };
 }
 
 impl<'a> Members<'a> {
-    /// Those of a specification with so many events, prepared to be asked.
+    /// Those of a specification with so many events.
     pub fn new(
         alloc: Global,
         spec: &'a Spec,
@@ -67,20 +63,16 @@ impl<'a> Members<'a> {
         } = written;
         let macros = Macros::new(alloc, spec, phrases, definitions)?;
         let count = number_of(transitions.len())?;
-        let guards = transition_guards(alloc, transitions.as_slice())?;
         let on = transitions_on(alloc, events, transitions.as_slice())?;
         let case_count = number_of(send_cases.len())?;
-        let case_guards = case_guards(alloc, send_cases.as_slice())?;
         let cases_on = cases_on(alloc, events, send_cases.as_slice())?;
         Ok(Members {
             macros,
             transitions,
             count,
-            guards,
             on,
             send_cases,
             case_count,
-            case_guards,
             cases_on,
         })
     }
@@ -106,12 +98,12 @@ impl<'a> Members<'a> {
         ensures is { result.now ≡ self.now.base }
         ensures stands { StandsFor self.now }
     {
-        let _ = &self.guards;
+        let _ = &self.count;
         &self.macros
     }
 
     /// The transitions.
-    pub fn transitions(&self) -> &[GroundTransition]
+    pub fn transitions(&self) -> &[SharedTransition]
         ensures { result.now ≡ self.now.transitions }
     {
         let _ = &self.macros;
@@ -119,7 +111,7 @@ impl<'a> Members<'a> {
     }
 
     /// The cases of sends.
-    pub fn send_cases(&self) -> &[GroundSendCase]
+    pub fn send_cases(&self) -> &[SharedSendCase]
         ensures { result.now ≡ self.now.send_cases }
     {
         let _ = &self.macros;
@@ -133,7 +125,7 @@ impl<'a> Members<'a> {
         ensures below { GuardBelow (length self.now.base.phrases) result.now }
     {
         let _ = &self.macros;
-        &self.guards[transition as usize]
+        self.transitions[transition as usize].fast_guard()
     }
 
     /// The guard of a case of a send, prepared to be asked.
@@ -143,7 +135,7 @@ impl<'a> Members<'a> {
         ensures below { GuardBelow (length self.now.base.phrases) result.now }
     {
         let _ = &self.macros;
-        &self.case_guards[case as usize]
+        self.send_cases[case as usize].fast_guard()
     }
 
     /// The numbers of the transitions on an event, rising.

@@ -2,7 +2,7 @@ ghost use Rattle.std.specs.Prelude.{◌≡◌, IfOk};
 ghost use Rattle.rsml_ground.specs.Grounded.{IsGrounded, IsShort};
 ghost use Rattle.elaborate.specs.Machine.{StandsFor, of_parts};
 
-use ground_members::{GroundSendCase, GroundTransition, ground_send_cases, ground_transitions};
+use ground_members::{SharedSendCase, SharedTransition, ground_send_cases, ground_transitions};
 use phrase_builder::{Built, Lookup, build};
 use rsml_ground::{Definition, Phrases};
 use rsml_syntax::{Checked, NoMemory};
@@ -15,8 +15,8 @@ use std::alloc::Global;
 pub struct Written {
     pub phrases: Phrases,
     pub definitions: Vec<Definition>,
-    pub transitions: Vec<GroundTransition>,
-    pub send_cases: Vec<GroundSendCase>,
+    pub transitions: Vec<SharedTransition>,
+    pub send_cases: Vec<SharedSendCase>,
 }
 
 // The transitions and the cases of sends, over these phrases and definitions.

@@ -13,7 +13,7 @@ use crate::answers::externals;
 use crate::drawing::event_graph;
 use crate::external::External;
 use event_graph::{Chains as GraphChains, Clash, EventGraph};
-use ground_members::{GroundSendCase, GroundTransition};
+use ground_members::{SharedSendCase, SharedTransition};
 use interfaces::Interfaces;
 use rsml_syntax::{Checked, NoMemory, Spec};
 use state_tree::Tree;
@@ -52,8 +52,8 @@ impl<'a> Chains<'a> {
         checked: &'a Checked,
         tree: &Tree<'_>,
         interfaces: &Interfaces<'_>,
-        transitions: &[GroundTransition],
-        send_cases: &[GroundSendCase],
+        transitions: &[SharedTransition],
+        send_cases: &[SharedSendCase],
     ) -> Result<Chains<'a>, NoMemory>
         requires tree { tree.now ≡ checked.now }
         requires interfaces { interfaces.now ≡ checked.now }

@@ -9,7 +9,7 @@ use crate::meetings::{meet_in_sends, meet_on_lines};
 use crate::reaction::{sends, sources};
 use crate::starts::tell_starts;
 use event_graph::EventGraph;
-use ground_members::{GroundSendCase, GroundTransition};
+use ground_members::{SharedSendCase, SharedTransition};
 use interfaces::Interfaces;
 use rsml_syntax::{Checked, NoMemory};
 use state_tree::Tree;
@@ -22,8 +22,8 @@ pub fn event_graph(
     checked: &Checked,
     tree: &Tree<'_>,
     interfaces: &Interfaces<'_>,
-    transitions: &[GroundTransition],
-    send_cases: &[GroundSendCase],
+    transitions: &[SharedTransition],
+    send_cases: &[SharedSendCase],
 ) -> Result<EventGraph, NoMemory>
     requires tree { tree.now ≡ checked.now }
     requires interfaces { interfaces.now ≡ checked.now }

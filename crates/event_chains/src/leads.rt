@@ -6,10 +6,10 @@ ghost use Rattle.event_graph.specs.Graphs.{leads};
 ghost use Rattle.event_chains.specs.Reactions.{leads_by};
 
 use event_graph::EventGraph;
-use ground_members::GroundTransition;
+use ground_members::SharedTransition;
 
 /// Tells that the event of each transition leads to those that it raises.
-pub fn tell_leads(graph: &mut EventGraph, transitions: &[GroundTransition])
+pub fn tell_leads(graph: &mut EventGraph, transitions: &[SharedTransition])
     requires events { Each (λ t. t.event < graph.old.count) transitions.now }
     requires raises { Each (λ t. Each (λ r. r < graph.old.count) t.raises) transitions.now }
     ensures leads { (a b : ℕ) → leads graph.new a b
@@ -19,7 +19,7 @@ pub fn tell_leads(graph: &mut EventGraph, transitions: &[GroundTransition])
     ensures meets { graph.new.pairs ≡ graph.old.pairs }
 {
     for transition in transitions {
-        lead_to(graph, transition.event, transition.raises.as_slice());
+        lead_to(graph, transition.event(), transition.raises());
     }
 }
 

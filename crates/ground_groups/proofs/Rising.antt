@@ -125,6 +125,18 @@ any_of_one q [] m = absurd m
 any_of_one q (x ∷ xs) (inl e) = ap (λ b. b || list_any (same_key q) xs) (subst (λ z. same_key q z ≡ true) e (key_itself q))
 any_of_one q (x ∷ xs) (inr m) = ap (λ b. same_key q x || b) (any_of_one q xs m) ∙ or_true (same_key q x)
 
+or_false : (b : Bool) → (b || false) ≡ b
+or_false true = refl
+or_false false = refl
+
+-- a key that is there makes no difference
+pub any_kept : (q : Key) (keys : List Key) (n : ℕ) (key : Key) → slice_get keys n ≡ Some key → list_any (same_key q) keys ≡ (list_any (same_key q) keys || same_key q key)
+any_kept q keys n key h = by (same_key q key) refl
+  where
+    by : (b : Bool) → same_key q key ≡ b → list_any (same_key q) keys ≡ (list_any (same_key q) keys || b)
+    by true e = subst (λ z. list_any (same_key z) keys ≡ true) (sym (key_same q key e)) (any_of_one key keys (one_at keys n key h)) ∙ sym (or_true (list_any (same_key q) keys))
+    by false e = sym (or_false (list_any (same_key q) keys))
+
 -- what a set of the keys is, sorted
 pub are_heads : (keys before heads : List Key) (i : ℕ) → IsSorted key_cmp heads → IsDistinct same_key heads → ((q : Key) → list_any (same_key q) heads ≡ list_any (same_key q) before)
     → ((q : Key) → list_any (same_key q) before ≡ list_any (same_key q) (take i keys)) → length keys ≤ i → AreHeads keys heads
@@ -210,3 +222,15 @@ pub item_one : (xs : List Key) (i : ℕ) (d : Key) → i < length xs → IsOne (
 item_one [] i d l = absurd (omega (arith, l))
 item_one (x ∷ xs) zero d l = inl refl
 item_one (x ∷ xs) (suc i) d l = inr (item_one xs i d (omega (arith, l)))
+
+-- keys of items that are gone through one after another
+
+pub any_mapped : {A : Type 0} (f : A → Key) (q : Key) (i : ℕ) (xs : List A) → list_any (λ x. same_key q (f x)) (take i xs) ≡ list_any (same_key q) (take i (map f xs))
+any_mapped f q zero xs = refl
+any_mapped f q (suc i) [] = refl
+any_mapped f q (suc i) (x ∷ xs) = ap (λ b. same_key q (f x) || b) (any_mapped f q i xs)
+
+pub get_mapped : {A : Type 0} (f : A → Key) (xs : List A) (i : ℕ) (d : A) → f (get_or xs i d) ≡ get_or (map f xs) i (f d)
+get_mapped f [] i d = refl
+get_mapped f (x ∷ xs) zero d = refl
+get_mapped f (x ∷ xs) (suc i) d = get_mapped f xs i d

@@ -1,6 +1,7 @@
 -- Keys in order, each once.
 use Rattle.std.specs.Prelude.{◌≡◌, ◌<◌, ◌⊎◌, ℕ, zero, suc, Bool, ◌&&◌, List, [], ◌∷◌, ◌++◌, ⊤, nat_eq, Some, slice_get, if◌then◌else◌}
 use Rattle.rsml_meaning.specs.Words.{Each, IsOne}
+use Rattle.ground_members.specs.declared.send_cases.GroundSendCase.{GroundSendCase}
 use Rattle.ground_groups.specs.declared.key.Key.{Key}
 
 -- owner and event are equal
@@ -36,3 +37,7 @@ with_item (suc at) item (l ∷ ls) = l ∷ with_item at item ls
 -- the list of a head has a place more, at its end
 abbrev pub IsPut : List Key → Key → ℕ → List (List ℕ) → List (List ℕ) → Type 0
 IsPut heads key place old new = (at : ℕ) × (slice_get heads at ≡ Some key) × (new ≡ with_item at place old)
+
+-- the send and event of a case
+abbrev pub send_key : GroundSendCase → Key
+send_key c = record { owner = c.send; event = c.event }

@@ -15,7 +15,7 @@ use crate::group::{GroupKind, Member};
 use crate::lines::lines;
 use crate::lots::{send_lots, state_lots};
 use crate::stored::{Stored, total};
-use ground_members::{GroundSendCase, GroundTransition};
+use ground_members::{SharedSendCase, SharedTransition};
 use rsml_ground::Definition;
 use rsml_syntax::{Checked, NoMemory, Spec};
 use state_tree::Tree;
@@ -52,8 +52,8 @@ impl<'a> Groups<'a> {
         alloc: Global,
         checked: &'a Checked,
         tree: &Tree<'_>,
-        transitions: &[GroundTransition],
-        send_cases: &[GroundSendCase],
+        transitions: &[SharedTransition],
+        send_cases: &[SharedSendCase],
         definitions: &[Definition],
     ) -> Result<Groups<'a>, NoMemory>
         requires tree { tree.now ≡ checked.now }

@@ -5,10 +5,10 @@ ghost use Rattle.rsml_ground.specs.declared.phrases.GroundPhrase.{GroundPhrase};
 ghost use Rattle.ground_members.specs.Members.{AreSendCases, AreTransitions};
 ghost use Rattle.ground_groups.specs.Stored.{AreLots, AreSendLots, AreStateLots};
 
-use crate::heads::heads;
+use crate::heads::{case_heads, heads};
 use crate::key::Key;
-use crate::places::{number_of, places};
-use ground_members::{GroundSendCase, GroundTransition};
+use crate::places::{case_places, number_of, places};
+use ground_members::{SharedSendCase, SharedTransition};
 use indexmap::IndexSet;
 use rsml_syntax::NoMemory;
 use std::alloc::Global;
@@ -32,7 +32,7 @@ fn sorted(alloc: Global, keys: &[Key]) -> Result<Lots, NoMemory>
 }
 
 /// The transitions by source and event.
-pub fn state_lots(alloc: Global, transitions: &[GroundTransition]) -> Result<Lots, NoMemory>
+pub fn state_lots(alloc: Global, transitions: &[SharedTransition]) -> Result<Lots, NoMemory>
     ensures { IfOk result (λ lots. (ps : List GroundPhrase) (s : Spec) → IsChecked s
         → AreTransitions ps s transitions.now
         → AreStateLots s lots.heads.keys (map (λ l. l.items) lots.places.items)) }
@@ -42,40 +42,27 @@ pub fn state_lots(alloc: Global, transitions: &[GroundTransition]) -> Result<Lot
 }
 
 /// The cases of sends by send and event.
-pub fn send_lots(alloc: Global, cases: &[GroundSendCase]) -> Result<Lots, NoMemory>
+pub fn send_lots(alloc: Global, cases: &[SharedSendCase]) -> Result<Lots, NoMemory>
     ensures { IfOk result (λ lots. (ps : List GroundPhrase) (s : Spec) → IsChecked s
         → AreSendCases ps s cases.now
         → AreSendLots s lots.heads.keys (map (λ l. l.items) lots.places.items)) }
 {
-    let keys = case_keys(alloc, cases)?;
-    sorted(alloc, keys.as_slice())
+    let _count = number_of(cases.len())?;
+    let heads = case_heads(alloc, cases)?;
+    let places = case_places(alloc, cases, &heads)?;
+    Ok(Lots { heads, places })
 }
 
 // The source and event of each transition.
-fn transition_keys(alloc: Global, transitions: &[GroundTransition]) -> Result<Vec<Key>, NoMemory>
+fn transition_keys(alloc: Global, transitions: &[SharedTransition]) -> Result<Vec<Key>, NoMemory>
     ensures { IfOk result (λ keys. keys.items
         ≡ map (λ t. record { owner = t.source; event = t.event }) transitions.now) }
 {
-    let mut keys = Vec::new(alloc);
+    let mut keys = Vec::with_capacity(alloc, transitions.len())?;
     for transition in transitions {
         keys.push(Key {
-            owner: transition.source,
-            event: transition.event,
-        })?;
-    }
-    Ok(keys)
-}
-
-// The send and event of each case.
-fn case_keys(alloc: Global, cases: &[GroundSendCase]) -> Result<Vec<Key>, NoMemory>
-    ensures { IfOk result (λ keys. keys.items
-        ≡ map (λ c. record { owner = c.send; event = c.event }) cases.now) }
-{
-    let mut keys = Vec::new(alloc);
-    for case in cases {
-        keys.push(Key {
-            owner: case.send,
-            event: case.event,
+            owner: transition.source(),
+            event: transition.event(),
         })?;
     }
     Ok(keys)

@@ -1,13 +1,16 @@
 ghost use Rattle.std.specs.Prelude.{◌≡◌, ◌<◌, [], IfOk, IfSome, None, OnOk, Some, length, map, replicate, slice_get};
-ghost use Rattle.ground_groups.specs.Heads.{AreHeads, IsPut, places_of, with_item};
+ghost use Rattle.ground_groups.specs.Heads.{AreHeads, IsPut, places_of, send_key, with_item};
 ghost use Rattle.rsml_meaning.specs.Words.{IsOne};
 
-use crate::key::Key;
+use crate::heads::key_of;
+use crate::key::{Key, near};
+use ground_members::SharedSendCase;
 use indexmap::IndexSet;
 use rsml_syntax::NoMemory;
 use std::alloc::Global;
 
 /// The place of a key among the heads.
+#[inline(never)]
 pub fn find(heads: &IndexSet<Key>, key: Key) -> Option<usize>
     ensures some { IfSome result (λ place. slice_get heads.now.keys place ≡ Some key) }
     ensures none { result ≡ None → IsOne key heads.now.keys → ⊥ }
@@ -22,27 +25,63 @@ pub fn places(alloc: Global, keys: &[Key], heads: &IndexSet<Key>) -> Result<Vec<
         ≡ map (λ k. places_of k 0 keys.now) heads.now.keys) }
 {
     let mut lists = empty(alloc, heads.len())?;
+    let mut head = 0;
     for (place, key) in keys.iter().enumerate() {
-        put(&mut lists, heads, *key, number_of(place)?)?;
+        head = put(&mut lists, heads, *key, number_of(place)?, head)?;
     }
     Ok(lists)
 }
 
-// Puts a place last in the list of its head.
+/// The places of each head among the keys of cases, rising.
+pub fn case_places(
+    alloc: Global,
+    cases: &[SharedSendCase],
+    heads: &IndexSet<Key>,
+) -> Result<Vec<Vec<u32>>, NoMemory>
+    requires { AreHeads (map send_key cases.now) heads.now.keys }
+    ensures { IfOk result (λ lists. map (λ l. l.items) lists.items
+        ≡ map (λ k. places_of k 0 (map send_key cases.now)) heads.now.keys) }
+{
+    let mut lists = empty(alloc, heads.len())?;
+    let mut head = 0;
+    for (place, case) in cases.iter().enumerate() {
+        head = put(&mut lists, heads, key_of(case), number_of(place)?, head)?;
+    }
+    Ok(lists)
+}
+
+// The place of a key among the heads: it is looked for here first.
+#[inline(always)]
+fn find_near(heads: &IndexSet<Key>, key: Key, here: usize) -> Option<usize>
+    ensures some { IfSome result (λ place. slice_get heads.now.keys place ≡ Some key) }
+    ensures none { result ≡ None → IsOne key heads.now.keys → ⊥ }
+{
+    match near(heads.as_slice(), key, here) {
+        Some(place) => Some(place),
+        None => find(heads, key),
+    }
+}
+
+// Puts a place last in the list of its head, which is looked for here first. The head's place.
+#[inline(always)]
 fn put(
     lists: &mut Vec<Vec<u32>>,
     heads: &IndexSet<Key>,
     key: Key,
     place: u32,
-) -> Result<(), NoMemory>
+    here: usize,
+) -> Result<usize, NoMemory>
     requires long { length lists.old.items ≡ length heads.now.keys }
     requires there { IsOne key heads.now.keys }
     ensures { OnOk result (IsPut heads.now.keys key place
         (map (λ l. l.items) lists.old.items) (map (λ l. l.items) lists.new.items)) }
 {
-    match find(heads, key) {
-        Some(head) => push_at(lists, head, place),
-        None => Ok(()),
+    match find_near(heads, key, here) {
+        Some(head) => {
+            push_at(lists, head, place)?;
+            Ok(head)
+        }
+        None => Ok(here),
     }
 }
 
@@ -58,6 +97,7 @@ fn empty(alloc: Global, count: usize) -> Result<Vec<Vec<u32>>, NoMemory>
 }
 
 // Puts an item last in the list at a place.
+#[inline(always)]
 fn push_at(lists: &mut Vec<Vec<u32>>, at: usize, item: u32) -> Result<(), NoMemory>
     requires { at < length lists.old.items }
     ensures { OnOk result (map (λ l. l.items) lists.new.items
@@ -68,6 +108,7 @@ fn push_at(lists: &mut Vec<Vec<u32>>, at: usize, item: u32) -> Result<(), NoMemo
 }
 
 /// A place as a number: for more than 2^32 there is no room in memory.
+#[inline(always)]
 pub fn number_of(place: usize) -> Result<u32, NoMemory>
     ensures { IfOk result (λ number. number ≡ place) }
 {

@@ -1,9 +1,11 @@
 pub mod Adding
 pub mod Buses
+pub mod EachInstance
+pub mod Grown
 pub mod Likeness
-pub mod Listing
 pub mod Lists
 pub mod Numbers
 pub mod Reached
 pub mod Rules
+pub mod Shapes
 pub mod Staying

@@ -1,12 +1,13 @@
 -- Transitions that differ in their sources alone.
-use Rattle.std.proofs.Common.{◌≡◌, ℕ, ◌+◌, ◌<◌, ◌≤◌, List, [], ◌∷◌, ◌++◌, map, flat_map, length, take, get_or, refl, sym, ap, ◌∙◌, subst, append-nil}
+use Rattle.std.proofs.Common.{◌≡◌, ℕ, ◌+◌, ◌<◌, ◌≤◌, List, [], ◌∷◌, ◌++◌, map, flat_map, length, take, get_or, Some, refl, sym, ap, ◌∙◌, subst, append-nil}
 use Rattle.std.specs.List.{AllZip}
 use Rattle.std.proofs.lemmas.List.{take_more, take_all}
 use Rattle.rsml_syntax.specs.declared.syntax.Spec.{Spec}
 use Rattle.rsml_syntax.specs.text.Names.{Name}
-use Rattle.rsml_meaning.specs.Words.{Each}
+use Rattle.rsml_meaning.specs.Words.{Path, Each, at, child_path}
 use Rattle.rsml_meaning.specs.Instances.{states, globals_of}
 use Rattle.rsml_meaning.specs.Truth.{within}
+use Rattle.state_arrays.specs.Places.{path_at}
 use Rattle.rsml_ground.specs.declared.definitions.Definition.{Definition}
 use Rattle.rsml_ground.specs.declared.phrases.GroundPhrase.{GroundPhrase}
 use Rattle.rsml_ground.specs.Grounded.{IsGrounded}
@@ -16,12 +17,26 @@ use Rattle.rsml_ground.specs.StandsFor.{GuardIs}
 use Rattle.ground_members.specs.declared.transitions.GroundTransition.{GroundTransition}
 use Rattle.ground_members.specs.declared.written.Written.{Written}
 use Rattle.ground_members.specs.Alike.{IsAlike, AddsAlike, AddsAll}
-use Rattle.ground_members.specs.Members.{IsComponent, IsTarget, IsEvent, TransitionIs}
+use Rattle.ground_members.specs.Shared.{from_source}
+use Rattle.ground_members.specs.Members.{IsComponent, IsState, IsTarget, IsEvent, TransitionIs}
 use Rattle.ground_members.specs.Scoped.{HasChild, TransitionIsScoped}
 use Rattle.ground_members.specs.Written.{made_of, made_by, all_made_by, IsPlaced}
 use Rattle.ground_members.proofs.Adding.{flat_append}
 use Rattle.ground_members.proofs.Lists.{zip_to, zip_append}
 use Rattle.ground_members.proofs.Staying.{IsSoFar, transition_stays, keeps_both}
+
+-- one from the state of another number is like it
+pub alike_from : (s : Spec) (node : ℕ) (other : GroundTransition) (name : Name) (k : ℕ) (x : GroundTransition) → ((path : Path) → path_at (states s) node ≡ Some path → IsState s (child_path path (at name 0)) k)
+    → x ≡ from_source k other → IsAlike s node other name x
+alike_from s node other name k x h e = subst (IsAlike s node other name) (sym e) (record {
+  component = refl;
+  source = h;
+  target = refl;
+  event = refl;
+  guard = refl;
+  raises = refl;
+  ordinal = refl;
+})
 
 -- a transition like one that stands for what is written stands for it from its own source
 alike_stands : (ps : List GroundPhrase) (s : Spec) (w : Written) (first name : Name) (x y : GroundTransition) → IsPlaced (states s) w.owner → TransitionIs ps s (made_of (globals_of s) w first) x → IsAlike s w.owner.node x name y

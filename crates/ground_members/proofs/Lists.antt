@@ -20,7 +20,7 @@ each_mapped P f [] i x e l is = absurd (not-suc-le-zero l)
 each_mapped P f (y ∷ xs) zero x e l is = subst (λ z. P (f z)) (sym is) e.0
 each_mapped P f (y ∷ xs) (suc i) x e l is = each_mapped P f xs i x e.1 (le_of_suc-le-suc l) is
 
-each_front : {A : Type 0} (P : A → Type 0) (xs ys : List A) → Each P (xs ++ ys) → Each P xs × Each P ys
+pub each_front : {A : Type 0} (P : A → Type 0) (xs ys : List A) → Each P (xs ++ ys) → Each P xs × Each P ys
 each_front P [] ys h = (tt, h)
 each_front P (x ∷ xs) ys h = let r = each_front P xs ys h.1 in ((h.0, r.0), r.1)
 

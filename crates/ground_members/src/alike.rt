@@ -1,38 +1,26 @@
-ghost use Rattle.std.specs.Prelude.{IfOk, OnOk};
+ghost use Rattle.std.specs.Prelude.{◌≡◌, IfOk, OnOk};
 ghost use Rattle.std.specs.List.{AllZip};
 ghost use Rattle.rsml_meaning.specs.Words.{Each};
 ghost use Rattle.ground_members.specs.Alike.{IsAlike, AddsAlike};
 ghost use Rattle.ground_members.specs.Scoped.{HasChild};
 
-use crate::copies::{copied_guard, copied_numbers};
+use crate::shared_transition::SharedTransition;
 use crate::targets::child;
-use crate::transitions::GroundTransition;
 use phrase_builder::Lookup;
 use rsml_syntax::{NoMemory, Text};
 use std::alloc::Global;
 
 // A transition from this child of the state of a number, and otherwise as another.
 fn alike(
-    alloc: Global,
     lookup: &Lookup<'_, '_>,
     node: u32,
-    other: &GroundTransition,
+    other: &SharedTransition,
     source: &Text,
-) -> Result<GroundTransition, NoMemory>
+) -> Result<SharedTransition, NoMemory>
     requires { HasChild lookup.now node source.now }
     ensures { IfOk result (λ x. IsAlike lookup.now node other.now source.now x) }
 {
-    let guard = copied_guard(alloc, &other.guard)?;
-    let raises = copied_numbers(alloc, other.raises.as_slice())?;
-    Ok(GroundTransition {
-        component: other.component,
-        source: child(lookup, node, source),
-        target: other.target,
-        event: other.event,
-        guard,
-        raises,
-        ordinal: other.ordinal,
-    })
+    other.like(child(lookup, node, source))
 }
 
 // One like another for each of these children.
@@ -40,26 +28,26 @@ fn all_alike(
     alloc: Global,
     lookup: &Lookup<'_, '_>,
     node: u32,
-    other: &GroundTransition,
+    other: &SharedTransition,
     sources: &[Text],
-) -> Result<Vec<GroundTransition>, NoMemory>
+) -> Result<Vec<SharedTransition>, NoMemory>
     requires { Each (HasChild lookup.now node) sources.now }
     ensures { IfOk result (λ xs. AllZip (IsAlike lookup.now node other.now) sources.now xs.items) }
 {
-    let mut transitions = Vec::new(alloc);
+    let mut transitions = Vec::with_capacity(alloc, sources.len())?;
     for source in sources {
-        transitions.push(alike(alloc, lookup, node, other, source)?)?;
+        transitions.push(alike(lookup, node, other, source)?)?;
     }
     Ok(transitions)
 }
 
 /// Adds a transition, and then one like it for each of these children of the state of a number.
 pub fn add_alike(
-    transitions: &mut Vec<GroundTransition>,
+    transitions: &mut Vec<SharedTransition>,
     alloc: Global,
     lookup: &Lookup<'_, '_>,
     node: u32,
-    first: GroundTransition,
+    first: SharedTransition,
     sources: &[Text],
 ) -> Result<(), NoMemory>
     requires { Each (HasChild lookup.now node) sources.now }

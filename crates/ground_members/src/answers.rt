@@ -39,7 +39,7 @@ fn values(
     requires { Each (ValueIsScoped lookup.now (length (definitions lookup.now)) (within this)) written.now }
     ensures { IfOk result (λ xs. AllZip (ValueIs lookup.now (within this)) written.now xs) }
 {
-    let mut values = List::new(alloc);
+    let mut values = List::with_capacity(alloc, written.len())?;
     for one in written {
         values.push(value(alloc, lookup, this, one)?)?;
     }

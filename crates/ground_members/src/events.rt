@@ -34,7 +34,7 @@ pub fn event_numbers(
     ensures { IfOk result (λ ks. AllZip (IsEvent lookup.now)
         (map (instance (globals_of lookup.now) (within this)) mentions.now) ks) }
 {
-    let mut numbers = List::new(alloc);
+    let mut numbers = List::with_capacity(alloc, mentions.len())?;
     for mention in mentions {
         numbers.push(event_number(lookup, this, mention))?;
     }

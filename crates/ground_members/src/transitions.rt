@@ -11,6 +11,7 @@ ghost use Rattle.ground_members.specs.Written.{made_of, made_by, all_made_by, Is
 
 use crate::alike::add_alike;
 use crate::events::{event_number, event_numbers};
+use crate::shared_transition::SharedTransition;
 use crate::targets::{child, target};
 use crate::written::{Written, written_transitions};
 use phrase_builder::{Lookup, guard};
@@ -41,7 +42,7 @@ fn transition(
     phrases: &mut Phrases,
     written: &Written<'_, '_>,
     source: &Text,
-) -> Result<GroundTransition, NoMemory>
+) -> Result<SharedTransition, NoMemory>
     requires before { IsGrounded (record { spec = lookup.now; phrases = phrases.old; definitions = definitions.now }) }
     requires placed { IsPlaced (states lookup.now) written.now.owner }
     requires scoped { TransitionIsScoped lookup.now (made_of (globals_of lookup.now) written.now source.now) }
@@ -60,7 +61,7 @@ fn transition(
         &transition.guard,
     )?;
     let raises = event_numbers(alloc, lookup, owner.this, transition.raises.as_slice())?;
-    Ok(GroundTransition {
+    let whole = GroundTransition {
         component: owner.component,
         source: child(lookup, owner.node, source),
         target: target(lookup, owner.node, transition.target.as_ref()),
@@ -68,12 +69,13 @@ fn transition(
         guard,
         raises,
         ordinal: written.ordinal,
-    })
+    };
+    SharedTransition::new(alloc, whole)
 }
 
 // Adds a transition as it is written, over numbers, once for each of its sources. All but the source is worked out once.
 fn add_transitions(
-    transitions: &mut Vec<GroundTransition>,
+    transitions: &mut Vec<SharedTransition>,
     alloc: Global,
     lookup: &Lookup<'_, '_>,
     definitions: &[Definition],
@@ -102,6 +104,15 @@ fn add_transitions(
     )
 }
 
+// How many transitions are written: as many as there is room for, where they are more.
+fn count(written: &[Written<'_, '_>]) -> usize {
+    let mut count: usize = 0;
+    for one in written {
+        count = count.saturating_add(one.sources.len());
+    }
+    count
+}
+
 // The transitions as they are written, over numbers.
 fn transitions_from(
     alloc: Global,
@@ -109,7 +120,7 @@ fn transitions_from(
     definitions: &[Definition],
     phrases: &mut Phrases,
     written: &[Written<'_, '_>],
-) -> Result<Vec<GroundTransition>, NoMemory>
+) -> Result<Vec<SharedTransition>, NoMemory>
     requires before { IsGrounded (record { spec = lookup.now; phrases = phrases.old; definitions = definitions.now }) }
     requires placed { ArePlaced (states lookup.now) written.now }
     requires scoped { Each (TransitionIsScoped lookup.now) (all_made_by (globals_of lookup.now) written.now) }
@@ -118,7 +129,7 @@ fn transitions_from(
     ensures are { IfOk result (λ ts. AllZip (TransitionIs phrases.new lookup.now)
         (all_made_by (globals_of lookup.now) written.now) ts.items) }
 {
-    let mut transitions = Vec::new(alloc);
+    let mut transitions = Vec::with_capacity(alloc, count(written))?;
     for one in written {
         add_transitions(&mut transitions, alloc, lookup, definitions, phrases, one)?;
     }
@@ -132,7 +143,7 @@ pub fn ground_transitions(
     tree: &Tree<'_>,
     definitions: &[Definition],
     phrases: &mut Phrases,
-) -> Result<Vec<GroundTransition>, NoMemory>
+) -> Result<Vec<SharedTransition>, NoMemory>
     requires before { IsGrounded (record { spec = lookup.now; phrases = phrases.old; definitions = definitions.now }) }
     requires tree { tree.now ≡ lookup.now }
     ensures after { IsGrounded (record { spec = lookup.now; phrases = phrases.new; definitions = definitions.now }) }

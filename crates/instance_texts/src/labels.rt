@@ -9,7 +9,7 @@ ghost use Rattle.text_writer.specs.Writes.{Writes};
 ghost use Rattle.instance_texts.specs.Sources.{StartsBelow};
 
 use crate::steps::put_path;
-use ground_members::GroundTransition;
+use ground_members::SharedTransition;
 use state_tree::{Nodes, StepRef, Tree};
 use text_writer::{Writer, put_number};
 
@@ -115,18 +115,18 @@ fn target_path<'n>(nodes: &'n Nodes<'_>, target: Option<u32>) -> Option<&'n [Ste
 }
 
 /// Writes the label of a transition.
-pub fn put_label<W: Writer>(writer: &mut W, tree: &Tree<'_>, transition: &GroundTransition)
+pub fn put_label<W: Writer>(writer: &mut W, tree: &Tree<'_>, transition: &SharedTransition)
     ensures { (ps : List ground.GroundPhrase) (t : TransitionInstance) (place : ℕ)
         → slice_get (transitions tree.now) place ≡ Some t → TransitionIs ps tree.now t transition.now
         → Writes (W.state writer.old) (W.text writer.old) (label t) (W.state writer.new) (W.text writer.new) }
 {
     let nodes = tree.states();
-    match nodes.path(transition.source) {
+    match nodes.path(transition.source()) {
         Some(source) => put_label_of(
             writer,
-            transition.ordinal,
+            transition.ordinal(),
             source,
-            target_path(nodes, transition.target),
+            target_path(nodes, transition.target()),
         ),
         None => {}
     }

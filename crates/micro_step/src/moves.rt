@@ -22,8 +22,8 @@ fn enter(machine: &Machine<'_>, choices: &mut List<u8>, transition: u32)
 {
     machine.law();
     let moved = machine.transition(transition);
-    if let Some(target) = moved.target {
-        machine.tree().enter(choices, moved.component, target);
+    if let Some(target) = moved.target() {
+        machine.tree().enter(choices, moved.component(), target);
     }
 }
 

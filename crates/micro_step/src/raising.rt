@@ -16,7 +16,7 @@ fn raise_by(machine: &Machine<'_>, transition: u32, raised: &mut Events)
 {
     machine.law();
     let _ = machine.events();
-    let raises = machine.transition(transition).raises.as_slice();
+    let raises = machine.transition(transition).raises();
     for event in raises {
         raised.put(*event as usize);
     }

@@ -53,7 +53,7 @@ fn room(alloc: Global, machine: &Machine<'_>) -> Result<Vec<Vec<i64>>, NoMemory>
 {
     let mut values = Vec::new(alloc);
     for case in 0..machine.send_cases() {
-        let many = count(&machine.send_case(case).answer);
+        let many = count(machine.send_case(case).answer());
         values.push(Vec::from_elem(alloc, 0, many)?)?;
     }
     Ok(values)

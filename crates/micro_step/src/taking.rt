@@ -27,7 +27,7 @@ fn is_active(machine: &Machine<'_>, world: &World, seen: &mut Seen, transition: 
     ensures seen { IsSeen machine.now.base.spec world.now seen.new }
 {
     machine.law();
-    let source = machine.transition(transition).source;
+    let source = machine.transition(transition).source();
     seen.is_active(machine, world, source)
 }
 

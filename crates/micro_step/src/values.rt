@@ -71,7 +71,7 @@ fn write_case(
 {
     machine.law();
     let written = machine.send_case(case);
-    match &written.answer {
+    match written.answer() {
         GroundAnswer::Quiet => {}
         GroundAnswer::Values(values) => write(machine, world, memo, values.as_slice(), numbers),
     }

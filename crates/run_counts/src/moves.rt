@@ -12,7 +12,7 @@ fn is_move(machine: &Machine<'_>, transition: u32) -> bool
     requires { transition < length machine.now.transitions }
     ensures { result ≡ moves_at machine.now transition }
 {
-    machine.transition(transition).target.is_some()
+    machine.transition(transition).target().is_some()
 }
 
 /// How many of the transitions of these numbers are moves.

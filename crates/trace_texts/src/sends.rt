@@ -11,7 +11,7 @@ ghost use Rattle.trace_texts.specs.Lines.{case_line, line_of, sent_line};
 
 use crate::fields::put_fields;
 use elaborate::Machine;
-use ground_members::{GroundAnswer, GroundSendCase};
+use ground_members::{GroundAnswer, SharedSendCase};
 use instance_texts::{SentTexts, Texts};
 use micro_step::Scratch;
 use text_writer::{Writer, put_line_end};
@@ -40,7 +40,7 @@ fn put_answer<W: Writer>(
     writer: &mut W,
     texts: &Texts<'_>,
     sent: &SentTexts<'_>,
-    answered: &GroundSendCase,
+    answered: &SharedSendCase,
     case: u32,
     numbers: &[i64],
 )
@@ -52,9 +52,9 @@ fn put_answer<W: Writer>(
         (send_line (globals_of sent.now) (record { send_case = c; values = numbers.now }))
         (W.state writer.new) (W.text writer.new) }
 {
-    match &answered.answer {
+    match answered.answer() {
         GroundAnswer::Quiet => {}
-        GroundAnswer::Values(_) => put_line(writer, texts, sent, answered.send, case, numbers),
+        GroundAnswer::Values(_) => put_line(writer, texts, sent, answered.send(), case, numbers),
     }
 }
 

@@ -7,13 +7,13 @@ ghost use Rattle.text_writer.specs.Writes.{Writes};
 ghost use Rattle.trace_texts.specs.Lines.{take_line};
 
 use elaborate::Machine;
-use ground_members::GroundTransition;
+use ground_members::SharedTransition;
 use instance_texts::put_label;
 use state_tree::Tree;
 use text_writer::{Writer, put_line_end};
 
 /// Writes the line of a transition.
-fn put_line<W: Writer>(writer: &mut W, tree: &Tree<'_>, transition: &GroundTransition)
+fn put_line<W: Writer>(writer: &mut W, tree: &Tree<'_>, transition: &SharedTransition)
     ensures { (ps : List ground.GroundPhrase) (t : TransitionInstance) (place : ℕ)
         → slice_get (transitions tree.now) place ≡ Some t → TransitionIs ps tree.now t transition.now
         → Writes (W.state writer.old) (W.text writer.old) (text_line (codes "    take " ++ label t))

@@ -26,7 +26,7 @@ loop-place-preserved c =
     let keys = c.args.keys.now in
     let heads = c.args.heads.now.keys in
     let place = c.loop-place.place in
-    let p = c.in_ok-put.ensures in
+    let p = c.in_ok-head.ensures in
     let all = p.2 ∙ ap (λ n. with_item p.0 n (map (λ x. x.items) c.loop-place.lists.items)) c.in_ok-number_of.ensures ∙ ap (with_item p.0 place) c.loop-place.invariant.lists_are
     ∙ sym (one_more keys heads place p.0 _ _ c.requires.rising (omega (arith, t, a)) refl p.1) in
     record {

@@ -11,17 +11,18 @@ enter-requires-clause-fit c = c.requires.fit ∙ sym (ap (λ (t : Spec). length 
 
 pub enter-requires-clause-component : goal.enter-requires-clause-component
 enter-requires-clause-component c =
-    subst (λ (t : Spec). c.transition-moved.result.now.component < length (components t)) (sym c.tree.ensures)
-    (component_below c.args.machine.now c.args.transition c.transition-moved.result.now c.law.ensures c.transition-moved.ensures)
+    subst (λ (t : Spec). c.component.result < length (components t)) (sym c.tree.ensures)
+    (subst (λ n. n < length (components c.args.machine.now.base.spec)) (sym c.component.ensures)
+    (component_below c.args.machine.now c.args.transition c.transition-moved.result.now c.law.ensures c.transition-moved.ensures))
 
 pub enter-requires-clause-target : goal.enter-requires-clause-target
 enter-requires-clause-target c =
     subst (λ (t : Spec). c.in-Some.target < length (states t)) (sym c.tree.ensures)
-    (target_below c.args.machine.now c.args.transition c.in-Some.target c.transition-moved.result.now c.law.ensures c.transition-moved.ensures c.in-Some.is)
+    (target_below c.args.machine.now c.args.transition c.in-Some.target c.transition-moved.result.now c.law.ensures c.transition-moved.ensures (sym c.target.ensures ∙ c.in-Some.is))
 
 pub returns-in-Some-clause-fit : goal.returns-in-Some-clause-fit
 returns-in-Some-clause-fit c =
     let t = c.tree.result.now in
     ap length c.enter.ensures
-    ∙ after_long t (component_path t c.transition-moved.result.now.component) (path_of t c.in-Some.target) c.args.choices.now (c.requires.fit ∙ sym (ap (λ (s : Spec). length (components s)) c.tree.ensures))
+    ∙ after_long t (component_path t c.component.result) (path_of t c.in-Some.target) c.args.choices.now (c.requires.fit ∙ sym (ap (λ (s : Spec). length (components s)) c.tree.ensures))
     ∙ c.requires.fit

@@ -14,15 +14,15 @@ loop-event-init c = λ q. sym (no_more (has c.args.raised.now q))
 pub put-requires : goal.put-requires
 put-requires c =
     let m = c.args.machine.now in
-    let ks = c.as_slice-raises.result.now in
+    let ks = c.raises-raises.result.now in
     let k = get_or ks c.loop-event.event-index 0 in
-    let there = subst (λ (ns : List ℕ). among ns k ≡ true) c.as_slice-raises.ensures (among_item ks c.loop-event.event-index k c.loop-event-test.true refl) in
+    let there = subst (λ (ns : List ℕ). among ns k ≡ true) c.raises-raises.ensures (among_item ks c.loop-event.event-index k c.loop-event-test.true refl) in
     let below : k < length (events m.base.spec) = raises_below m c.args.transition k c.transition.result.now c.law.ensures c.transition.ensures there in
     omega (arith, below, c.events.ensures.count, c.events.ensures.few)
 
 pub loop-event-preserved : goal.loop-event-preserved
 loop-event-preserved c = λ q.
-    let ks = c.as_slice-raises.result.now in
+    let ks = c.raises-raises.result.now in
     let i = c.loop-event.event-index in
     let k = get_or ks i 0 in
     c.put.ensures q
@@ -32,7 +32,7 @@ loop-event-preserved c = λ q.
 
 pub returns : goal.returns
 returns c = λ q.
-    let ks = c.as_slice-raises.result.now in
+    let ks = c.raises-raises.result.now in
     c.loop-event.invariant q
     ∙ ap (λ (ns : List ℕ). has c.args.raised.now q || among ns q) (take_all c.loop-event.event-index ks c.loop-event-test.false)
-    ∙ raised_by_one c.args.machine.now c.args.transition q c.transition.result.now ks (has c.args.raised.now q) c.transition.ensures c.as_slice-raises.ensures
+    ∙ raised_by_one c.args.machine.now c.args.transition q c.transition.result.now ks (has c.args.raised.now q) c.transition.ensures c.raises-raises.ensures

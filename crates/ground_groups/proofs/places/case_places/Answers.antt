@@ -1,0 +1,46 @@
+use Rattle.std.proofs.Common.{◌≡◌, ◌<◌, sym, ap, ◌∙◌, replicate, map, [], length, arith, subst, get_or}
+use Rattle.std.proofs.lemmas.List.{length-map}
+use Rattle.rsml_meaning.specs.Words.{IsOne}
+use Rattle.ground_groups.specs.Heads.{send_key, with_item}
+use Rattle.ground_groups.proofs.Rising.{empties, get_mapped, item_one, one_more}
+use Rattle.ground_groups.proofs.places.case_places.Goals as goal
+
+pub loop-place-init : goal.loop-place-init
+loop-place-init c =
+    let heads = c.args.heads.now.keys in
+    let all = c.in_ok-lists.ensures ∙ ap (λ n. replicate n []) c.len.ensures.len ∙ empties heads in
+    record {
+      long = sym (length-map c.in_ok-lists.lists.items (λ x. x.items)) ∙ ap length all ∙ length-map heads (λ k. []);
+      lists_are = all;
+    }
+
+pub put-requires-clause-there : goal.put-requires-clause-there
+put-requires-clause-there c =
+    let t = c.loop-place-test.true in
+    let a = c.loop-place.auto.place-end in
+    let cases = c.args.cases.now in
+    let place = c.loop-place.place in
+    let x = c.index-cases-place.result in
+    let keys = map send_key cases in
+    let many = length-map cases send_key in
+    let is : send_key x ≡ get_or keys place (send_key x) = ap send_key c.index-cases-place.is ∙ get_mapped send_key cases place x in
+    c.requires.all c.key_of.result (subst (λ k. IsOne k keys) (sym (c.key_of.ensures ∙ is)) (item_one keys place (send_key x) (omega (arith, t, a, many))))
+
+pub loop-place-preserved : goal.loop-place-preserved
+loop-place-preserved c =
+    let t = c.loop-place-test.true in
+    let a = c.loop-place.auto.place-end in
+    let cases = c.args.cases.now in
+    let heads = c.args.heads.now.keys in
+    let place = c.loop-place.place in
+    let x = c.index-cases-place.result in
+    let keys = map send_key cases in
+    let many = length-map cases send_key in
+    let is : send_key x ≡ get_or keys place (send_key x) = ap send_key c.index-cases-place.is ∙ get_mapped send_key cases place x in
+    let p = c.in_ok-head.ensures in
+    let all = p.2 ∙ ap (λ n. with_item p.0 n (map (λ x. x.items) c.loop-place.lists.items)) c.in_ok-number_of.ensures ∙ ap (with_item p.0 place) c.loop-place.invariant.lists_are
+    ∙ sym (one_more keys heads place p.0 c.key_of.result (send_key x) c.requires.rising (omega (arith, t, a, many)) (c.key_of.ensures ∙ is) p.1) in
+    record {
+      long = sym (length-map c.put.new.lists.items (λ x. x.items)) ∙ ap length all ∙ length-map heads _;
+      lists_are = all;
+    }
