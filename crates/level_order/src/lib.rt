@@ -2,6 +2,7 @@
 //! is chosen decides how large the diagrams are.
 #![tactic(auto)]
 
+mod alike;
 mod clusters;
 mod lines;
 mod lists;
@@ -19,4 +20,5 @@ mod supports;
 mod tests;
 mod union_find;
 
+pub use alike::first_alike;
 pub use ordering::order;

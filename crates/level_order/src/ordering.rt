@@ -13,8 +13,13 @@ use std::mem;
 /// An order for the levels of a machine, in which what is read together stands together. A comparison that names cells more than once
 /// stands there by itself; cells that meet in sums stand where the first of them does. What no guard reads comes last, and so do
 /// cells that are read in such comparisons alone.
-pub fn order(alloc: Global, machine: &Machine<'_>) -> Result<Vec<KeyPlace>, NoMemory> {
-    let parts = Parts::new(machine)?;
+/// Of comparisons that are alike the first one has a level.
+pub fn order(
+    alloc: Global,
+    machine: &Machine<'_>,
+    alike: &[u32],
+) -> Result<Vec<KeyPlace>, NoMemory> {
+    let parts = Parts::new(machine, alike)?;
     let order = parts_in_order(alloc, machine, &parts)?;
     let mut clusters = clusters(alloc, machine.macros(), parts.cells())?;
     let cells = gathered(alloc, &parts, &mut clusters, order.as_slice())?;
@@ -25,24 +30,40 @@ pub fn order(alloc: Global, machine: &Machine<'_>) -> Result<Vec<KeyPlace>, NoMe
 fn parts_in_order(
     alloc: Global,
     machine: &Machine<'_>,
-    parts: &Parts,
+    parts: &Parts<'_>,
 ) -> Result<Vec<u32>, NoMemory> {
-    let mut sequences = Sequences::new(alloc, parts.count())?;
-    let supports = Supports::new(alloc, machine, parts)?;
-    supports.join(&mut sequences);
+    let mut sequences = joined(alloc, machine, parts)?;
     let mut order = sequences.in_order(alloc)?;
+    add_others(&mut order, &sequences, parts)?;
+    Ok(order)
+}
+
+/// The sequences that the supports of a machine make.
+fn joined(alloc: Global, machine: &Machine<'_>, parts: &Parts<'_>) -> Result<Sequences, NoMemory> {
+    let supports = Supports::new(alloc, machine, parts)?;
+    let mut sequences = Sequences::new(alloc, parts.count())?;
+    supports.join(&mut sequences);
+    Ok(sequences)
+}
+
+/// Adds the components and cells that no sequence has.
+fn add_others(
+    order: &mut Vec<u32>,
+    sequences: &Sequences,
+    parts: &Parts<'_>,
+) -> Result<(), NoMemory> {
     for part in 0..parts.first_comparison() {
         if !sequences.is_read(part) {
             order.push(part)?;
         }
     }
-    Ok(order)
+    Ok(())
 }
 
 /// For each root of a cluster the cells that hang together, in order.
 fn gathered(
     alloc: Global,
-    parts: &Parts,
+    parts: &Parts<'_>,
     clusters: &mut UnionFind,
     order: &[u32],
 ) -> Result<Vec<List<u32>>, NoMemory> {
@@ -64,7 +85,7 @@ fn gathered(
 /// The parts as places. Cells that hang together take one place, that of the first of them.
 fn places(
     alloc: Global,
-    parts: &Parts,
+    parts: &Parts<'_>,
     clusters: &mut UnionFind,
     mut cells: Vec<List<u32>>,
     order: &[u32],

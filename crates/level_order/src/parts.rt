@@ -3,13 +3,14 @@ use elaborate::Machine;
 use rsml_base::NoMemory;
 
 /// The numbers of parts. The components come first, then the cells, and then the comparisons: one number for each phrase, which is
-/// that of a part where the phrase compares several cells.
+/// that of a part where the phrase compares several cells and is the first of those like it.
 #[derive(Clone, Copy)]
-pub struct Parts {
+pub struct Parts<'p> {
     components: u32,
     cells: u32,
     first_comparison: u32,
     count: u32,
+    alike: &'p [u32],
 }
 
 /// Of what a part is.
@@ -20,9 +21,10 @@ pub enum PartKind {
     Comparison(u32),
 }
 
-impl Parts {
-    /// The parts of a machine. NoMemory where a `u32` does not count them: memory would not hold so many.
-    pub fn new(machine: &Machine<'_>) -> Result<Parts, NoMemory> {
+impl<'p> Parts<'p> {
+    /// The parts of a machine, with the first comparison that is like each phrase. NoMemory where a `u32` does not count them: memory
+    /// would not hold so many.
+    pub fn new(machine: &Machine<'_>, alike: &'p [u32]) -> Result<Parts<'p>, NoMemory> {
         let components = machine.tree().components();
         let Ok(cells) = u32::try_from(machine.cells()) else {
             return Err(NoMemory);
@@ -35,6 +37,7 @@ impl Parts {
             cells,
             first_comparison,
             count,
+            alike,
         })
     }
 
@@ -58,9 +61,13 @@ impl Parts {
         self.components.saturating_add(cell)
     }
 
-    /// The part of the comparison that a phrase makes. A number too great is that of no part.
+    /// The part of the comparison that a phrase makes: that of the first one like it. A number too great is that of no part.
     pub fn comparison(&self, phrase: u32) -> u32 {
-        self.first_comparison.saturating_add(phrase)
+        let first = match self.alike.get(phrase as usize) {
+            Some(first) => *first,
+            None => phrase,
+        };
+        self.first_comparison.saturating_add(first)
     }
 
     /// Of what a part is.

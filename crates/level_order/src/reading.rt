@@ -16,25 +16,36 @@ use std::alloc::Global;
 pub fn reads(
     alloc: Global,
     machine: &Machine<'_>,
-    parts: &Parts,
+    parts: &Parts<'_>,
     set: &mut PartSet,
 ) -> Result<Reads, NoMemory> {
     let macros = machine.macros();
     let lines = lines(alloc, machine.tree(), set)?;
     let mut reads = Reads::new(alloc, lines, macros.definitions())?;
-    for number in 0..macros.phrases() {
-        let list = phrase(&mut reads, macros, parts, set, number)?;
-        reads.add_phrase(list)?;
-    }
+    add_phrases(&mut reads, macros, parts, set)?;
     add_others(&mut reads, macros, set)?;
     Ok(reads)
+}
+
+/// Adds what each phrase reads.
+fn add_phrases(
+    reads: &mut Reads,
+    macros: &Macros<'_>,
+    parts: &Parts<'_>,
+    set: &mut PartSet,
+) -> Result<(), NoMemory> {
+    for number in 0..macros.phrases() {
+        let list = phrase(reads, macros, parts, set, number)?;
+        reads.add_phrase(list)?;
+    }
+    Ok(())
 }
 
 /// The number of the list of the next phrase.
 fn phrase(
     reads: &mut Reads,
     macros: &Macros<'_>,
-    parts: &Parts,
+    parts: &Parts<'_>,
     set: &mut PartSet,
     number: u32,
 ) -> Result<usize, NoMemory>
@@ -61,7 +72,7 @@ fn phrase(
 fn definition(
     reads: &mut Reads,
     macros: &Macros<'_>,
-    parts: &Parts,
+    parts: &Parts<'_>,
     set: &mut PartSet,
     number: u32,
 ) -> Result<usize, NoMemory> {
@@ -84,7 +95,7 @@ fn definition(
 /// level of its own.
 fn put_cases(
     reads: &Reads,
-    parts: &Parts,
+    parts: &Parts<'_>,
     cases: &[GroundCase],
     set: &mut PartSet,
 ) -> Result<(), NoMemory> {

@@ -28,7 +28,7 @@ fn named_by(left: &GroundSum, right: &GroundSum) -> Named {
 
 /// Puts what the comparison of a phrase reads into a set: its cell, or where it names several the level that it has of its own.
 pub fn put_comparison(
-    parts: &Parts,
+    parts: &Parts<'_>,
     phrase: u32,
     left: &GroundSum,
     right: &GroundSum,
@@ -42,7 +42,7 @@ pub fn put_comparison(
 }
 
 /// Puts the cells of a sum into a set.
-pub fn put_cells(parts: &Parts, sum: &GroundSum, set: &mut PartSet) -> Result<(), NoMemory> {
+pub fn put_cells(parts: &Parts<'_>, sum: &GroundSum, set: &mut PartSet) -> Result<(), NoMemory> {
     for term in sum.terms.as_slice() {
         if let GroundOperand::Cell(cell) = term.operand {
             set.add(parts.cell(cell))?;

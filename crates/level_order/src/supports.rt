@@ -22,15 +22,40 @@ pub struct Supports {
 
 impl Supports {
     /// The supports of a machine: of its transitions, cases of sends, phrases and definitions, and groups of states.
-    pub fn new(alloc: Global, machine: &Machine<'_>, parts: &Parts) -> Result<Supports, NoMemory> {
+    pub fn new(
+        alloc: Global,
+        machine: &Machine<'_>,
+        parts: &Parts<'_>,
+    ) -> Result<Supports, NoMemory> {
         let mut set = PartSet::new(alloc, parts.count())?;
         let reads = reads(alloc, machine, parts, &mut set)?;
-        let mut supports = Supports::empty(alloc)?;
-        supports.add_transitions(machine, &reads, &mut set)?;
-        supports.add_send_cases(machine, &reads, &mut set)?;
-        supports.add_lists(&reads)?;
-        supports.add_groups(machine, &reads, &mut set)?;
+        let supports = Supports::of_reads(alloc, machine, &reads, &mut set)?;
         supports.without_shared(alloc, parts.count())
+    }
+
+    /// The same, where this is what states, phrases and definitions read.
+    fn of_reads(
+        alloc: Global,
+        machine: &Machine<'_>,
+        reads: &Reads,
+        set: &mut PartSet,
+    ) -> Result<Supports, NoMemory> {
+        let mut supports = Supports::empty(alloc)?;
+        supports.add_all(machine, reads, set)?;
+        Ok(supports)
+    }
+
+    /// Adds the supports of transitions, cases of sends, phrases and definitions, and groups of states.
+    fn add_all(
+        &mut self,
+        machine: &Machine<'_>,
+        reads: &Reads,
+        set: &mut PartSet,
+    ) -> Result<(), NoMemory> {
+        self.add_transitions(machine, reads, set)?;
+        self.add_send_cases(machine, reads, set)?;
+        self.add_lists(reads)?;
+        self.add_groups(machine, reads, set)
     }
 
     /// The same without the parts that very many others are read with: such a part would draw together what else stands apart. It
@@ -38,15 +63,26 @@ impl Supports {
     fn without_shared(&self, alloc: Global, count: u32) -> Result<Supports, NoMemory> {
         let neighbours = self.neighbours(alloc, count)?;
         let mut supports = Supports::empty(alloc)?;
+        supports.add_each_kept(alloc, self, &neighbours)?;
+        Ok(supports)
+    }
+
+    /// Adds what is not shared of other supports, and each shared part by itself.
+    fn add_each_kept(
+        &mut self,
+        alloc: Global,
+        others: &Supports,
+        neighbours: &Neighbours,
+    ) -> Result<(), NoMemory> {
         let mut kept = Vec::new(alloc);
-        for (size, listed) in self.by_size.iter().enumerate() {
+        for (size, listed) in others.by_size.iter().enumerate() {
             if size > 0 {
                 for support in listed.as_slice().chunks(size) {
-                    supports.add_kept(&neighbours, support, &mut kept)?;
+                    self.add_kept(neighbours, support, &mut kept)?;
                 }
             }
         }
-        Ok(supports)
+        Ok(())
     }
 
     /// The parts that are read with each, in small supports.
@@ -118,8 +154,8 @@ impl Supports {
     ) -> Result<(), NoMemory> {
         for transition in machine.all_transitions() {
             set.clear();
-            set.add_all(reads.line(transition.source))?;
-            reads.put_guard(&transition.guard, set)?;
+            set.add_all(reads.line(transition.source()))?;
+            reads.put_guard(transition.guard(), set)?;
             self.add(set.as_slice())?;
         }
         Ok(())
@@ -134,7 +170,7 @@ impl Supports {
     ) -> Result<(), NoMemory> {
         for case in machine.all_send_cases() {
             set.clear();
-            reads.put_guard(&case.guard, set)?;
+            reads.put_guard(case.guard(), set)?;
             self.add(set.as_slice())?;
         }
         Ok(())

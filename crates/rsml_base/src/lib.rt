@@ -10,6 +10,3 @@ pub use list::List;
 pub use no_memory::NoMemory;
 pub use pieces::{put, put_number};
 pub use text::Text;
-
-#[cfg(test)]
-mod tests;

@@ -10,33 +10,46 @@ pub enum Kind<'a> {
     Values(&'a Text),
     /// The sum has none.
     Mixed,
+    /// A name in it stands for nothing that has a kind, which is told at the name.
+    Unknown,
 }
 
 /// The kind of an input of this type.
 fn type_kind<'a>(known: &Known<'a>) -> Kind<'a> {
     match known.decl {
         Decl::Range { .. } => Kind::Numbers,
-        Decl::Enumeration { name, .. } => Kind::Values(name),
-        _ => Kind::Mixed,
+        Decl::Enumeration { name, .. } if known.value.is_none() => Kind::Values(name),
+        _ => Kind::Unknown,
     }
 }
 
 fn known_kind<'a>(globals: &Globals<'a>, known: &Known<'a>) -> Kind<'a> {
     match known.decl {
         Decl::Constant { .. } => Kind::Numbers,
-        Decl::Enumeration { name, .. } => Kind::Values(name),
+        Decl::Enumeration { name, .. } if known.value.is_some() => Kind::Values(name),
         Decl::Input { kind, .. } => match globals.meaning(kind) {
             Some(found) => type_kind(found),
-            None => Kind::Mixed,
+            None => Kind::Unknown,
         },
-        _ => Kind::Mixed,
+        _ => Kind::Unknown,
     }
 }
 
 fn mention_kind<'a>(globals: &Globals<'a>, mention: &Mention) -> Kind<'a> {
     match globals.meaning(&mention.name) {
         Some(known) => known_kind(globals, known),
-        None => Kind::Mixed,
+        None => Kind::Unknown,
+    }
+}
+
+/// The kind of what stands behind `previous`, where it is an input.
+fn previous_kind<'a>(globals: &Globals<'a>, mention: &Mention) -> Kind<'a> {
+    match globals.meaning(&mention.name) {
+        Some(known) => match known.decl {
+            Decl::Input { .. } => known_kind(globals, known),
+            _ => Kind::Unknown,
+        },
+        None => Kind::Unknown,
     }
 }
 
@@ -44,12 +57,16 @@ fn operand_kind<'a>(globals: &Globals<'a>, operand: &Operand) -> Kind<'a> {
     match operand {
         Operand::Number(_) => Kind::Numbers,
         Operand::Mention(mention) => mention_kind(globals, mention),
-        Operand::Previous(mention) => mention_kind(globals, mention),
+        Operand::Previous(mention) => previous_kind(globals, mention),
     }
 }
 
 pub fn are_numbers(kind: Kind<'_>) -> bool {
     matches!(kind, Kind::Numbers)
+}
+
+pub fn is_unknown(kind: Kind<'_>) -> bool {
+    matches!(kind, Kind::Unknown)
 }
 
 /// The kind of a sum.
@@ -60,6 +77,12 @@ pub fn sum_kind<'a>(globals: &Globals<'a>, sum: &Sum) -> Kind<'a> {
         .all(|term| are_numbers(operand_kind(globals, &term.operand)))
     {
         return Kind::Numbers;
+    }
+    if terms
+        .iter()
+        .any(|term| is_unknown(operand_kind(globals, &term.operand)))
+    {
+        return Kind::Unknown;
     }
     match terms {
         [term] if !term.minus => operand_kind(globals, &term.operand),
@@ -93,6 +116,9 @@ fn is_equation(relation: Relation) -> bool {
 
 /// What is wrong where sums of two kinds are compared, if something is.
 fn compared<'a>(left: Kind<'a>, relation: Relation, right: Kind<'a>) -> Option<KindFault<'a>> {
+    if is_unknown(left) || is_unknown(right) {
+        return None;
+    }
     if matches!(left, Kind::Mixed) || matches!(right, Kind::Mixed) {
         return Some(KindFault::Mixed);
     }
@@ -105,13 +131,16 @@ fn compared<'a>(left: Kind<'a>, relation: Relation, right: Kind<'a>) -> Option<K
     }
 }
 
-/// The kind of a function, by its first case.
+/// The kind of a function, by its first case. Where that has none, it is told at the case.
 fn function_kind<'a>(globals: &Globals<'a>, mention: &Mention) -> Option<Kind<'a>> {
     let known = globals.meaning(&mention.name)?;
     match known.decl {
         Decl::Function { cases, .. } => {
             let first = cases.as_slice().first()?;
-            Some(sum_kind(globals, &first.value))
+            match sum_kind(globals, &first.value) {
+                Kind::Mixed => Some(Kind::Unknown),
+                kind => Some(kind),
+            }
         }
         _ => None,
     }

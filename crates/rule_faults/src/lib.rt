@@ -2,8 +2,10 @@
 #![tactic(auto)]
 
 mod behind;
+mod case_faults;
 mod kind_faults;
 mod kinds;
+mod letters;
 mod limit_faults;
 mod naming;
 mod near;
@@ -14,5 +16,6 @@ mod subject;
 mod table_faults;
 mod telling;
 
+pub use letters::tell_letters;
 pub use limit_faults::tell_exceeded;
 pub use telling::tell_broken;

@@ -1,11 +1,11 @@
 //! S1, S2, S3 and S14: names that are declared again, not declared, of the wrong sort, or repeated.
 
 use crate::subject::{
-    Subject, known_name, known_sort, names_in, point_at, tell_known, tell_names, tell_nearest,
+    Subject, known_name, known_sort, names_in, point_at, tell_known, tell_list, tell_nearest,
 };
 use rsml_base::{NoMemory, Text};
 use rsml_names::{Known, values_of};
-use rsml_syntax::{Decl, Mention, Want};
+use rsml_syntax::{Mention, Want};
 use source_notes::{Notes, Piece};
 use source_survey::{Declared, Sort, Space, index_of};
 
@@ -185,16 +185,11 @@ pub fn wrong_sort(notes: &mut Notes<'_>, subject: &Subject<'_, '_>) -> Result<()
         ],
     )?;
     tell_known(notes, known)?;
-    if let Some(words) = meant(used.want, sort) {
-        return notes.say(&[Piece::Words(words)]);
+    match meant(used.want, sort) {
+        Some(words) => notes.say(&[Piece::Words(words)]),
+        None if used.want == Want::Type => Ok(()),
+        None => tell_list(notes, "its values are ", values_of(known.decl)),
     }
-    let mut values = Vec::new(notes.alloc());
-    if matches!(known.decl, Decl::Enumeration { .. }) && used.want != Want::Type {
-        for value in values_of(known.decl) {
-            values.push(value)?;
-        }
-    }
-    tell_names(notes, "its values are ", values.as_slice())
 }
 
 /// Whether a list has the name that is shown.

@@ -2,7 +2,7 @@
 
 use crate::behind::{point_at_rest, point_behind};
 use crate::subject::{Subject, known_name, number_in, point_at, tell_amount};
-use rsml_base::{NoMemory, Text};
+use rsml_base::{NoMemory, Text, put};
 use rsml_names::{children_of, number_of};
 use rsml_syntax::{Amount, Body, Decl, Index, Mention, StateDecl};
 use source_notes::{Notes, Piece};
@@ -144,6 +144,106 @@ fn index_fault<'a>(
     }
 }
 
+/// Whether a size has a number. Where it has none, that is told at its name.
+fn has_number(subject: &Subject<'_, '_>, size: Option<&Amount>) -> bool {
+    match size {
+        Some(size) => subject.globals.amount(size).is_some(),
+        None => true,
+    }
+}
+
+/// Whether what an index gets its range from has a number.
+fn has_range<'a>(subject: &Subject<'a, '_>, indexed: &Indexed<'a>) -> bool {
+    match &indexed.mention.index {
+        Some(index) => match index_fault(subject, index, &indexed.around) {
+            (_, Some(sized)) => has_number(subject, Some(sized.size)),
+            _ => true,
+        },
+        None => true,
+    }
+}
+
+/// An index whose range, which this name gives, goes up to the first number, and that of its name only to the second.
+fn too_far<'x>(
+    notes: &mut Notes<'_>,
+    name: &'x Text,
+    index: Piece<'x>,
+    ranged: &'x Text,
+    most: [i64; 2],
+) -> Result<(), NoMemory> {
+    let [highest, size] = most;
+    point_behind(
+        notes,
+        name,
+        b"[",
+        &[
+            Piece::Words("the index "),
+            index,
+            Piece::Words(" goes up to "),
+            Piece::Number(highest),
+            Piece::Words(", but that of "),
+            Piece::Name(name),
+            Piece::Words(" only to "),
+            Piece::Number(size),
+        ],
+    )?;
+    notes.say(&[
+        index,
+        Piece::Words(" gets its range from "),
+        Piece::Name(ranged),
+        Piece::Words(", at "),
+        Piece::Place(ranged.at()),
+    ])
+}
+
+/// `this` where it is the index of nothing.
+fn stray_this(notes: &mut Notes<'_>, name: &Text) -> Result<(), NoMemory> {
+    point_behind(
+        notes,
+        name,
+        b"[",
+        &[Piece::Words("`this` is the index of nothing here")],
+    )?;
+    notes.say(&[Piece::Words(
+        "`this` stands inside a state array, or a macro, function, receive or send with a size",
+    )])
+}
+
+/// An index that is wrong whatever is around.
+fn wrong_alone<'x>(
+    notes: &mut Notes<'_>,
+    name: &'x Text,
+    index: Piece<'x>,
+    size: i64,
+) -> Result<(), NoMemory> {
+    match index {
+        Piece::Number(_) => point_behind(
+            notes,
+            name,
+            b"[",
+            &[
+                Piece::Words("the index "),
+                index,
+                Piece::Words(" is out of range; that of "),
+                Piece::Name(name),
+                Piece::Words(" goes from 1 to "),
+                Piece::Number(size),
+            ],
+        ),
+        Piece::Code(_) => stray_this(notes, name),
+        _ => point_behind(
+            notes,
+            name,
+            b"[",
+            &[
+                Piece::Words("the index "),
+                index,
+                Piece::Words(" is neither a constant nor the variable of a quantifier around"),
+            ],
+        ),
+    }
+}
+
 /// What is wrong with an index of a name with a size.
 fn wrong_index<'x>(
     notes: &mut Notes<'_>,
@@ -153,73 +253,12 @@ fn wrong_index<'x>(
     size: i64,
 ) -> Result<(), NoMemory> {
     let (piece, sized) = index_fault(subject, index, &indexed.around);
-    let name = subject.name;
     match sized {
         Some(sized) => {
             let highest = number_in(subject.globals, sized.size);
-            point_behind(
-                notes,
-                name,
-                b"[",
-                &[
-                    Piece::Words("the index "),
-                    piece,
-                    Piece::Words(" goes up to "),
-                    Piece::Number(highest),
-                    Piece::Words(", but that of "),
-                    Piece::Name(name),
-                    Piece::Words(" only to "),
-                    Piece::Number(size),
-                ],
-            )?;
-            notes.say(&[
-                piece,
-                Piece::Words(" gets its range from "),
-                Piece::Name(sized.name),
-                Piece::Words(", at "),
-                Piece::Place(sized.name.at()),
-            ])
+            too_far(notes, subject.name, piece, sized.name, [highest, size])
         }
-        None => match piece {
-            Piece::Number(_) => point_behind(
-                notes,
-                name,
-                b"[",
-                &[
-                    Piece::Words("the index "),
-                    piece,
-                    Piece::Words(" is out of range; that of "),
-                    Piece::Name(name),
-                    Piece::Words(" goes from 1 to "),
-                    Piece::Number(size),
-                ],
-            ),
-            Piece::Code(_) => {
-                point_behind(
-                    notes,
-                    name,
-                    b"[",
-                    &[Piece::Words("`this` is the index of nothing here")],
-                )?;
-                notes.say(&[Piece::Words(
-                    "`this` stands inside a state array, or a macro, function, receive or send with a size",
-                )])
-            }
-            _ => {
-                point_behind(
-                    notes,
-                    name,
-                    b"[",
-                    &[
-                        Piece::Words("the index "),
-                        piece,
-                        Piece::Words(
-                            " is neither a constant nor the variable of a quantifier around",
-                        ),
-                    ],
-                )
-            }
-        },
+        None => wrong_alone(notes, subject.name, piece, size),
     }
 }
 
@@ -245,26 +284,57 @@ fn tell_size(
     }
 }
 
+/// What may be the index of a name with this size at a place.
+fn likely_index<'a>(subject: &Subject<'a, '_>, around: &Around<'a>, size: i64) -> &'a [u8] {
+    match (around.variable, around.array) {
+        (Some(variable), _) if number_in(subject.globals, variable.size) == size => {
+            variable.name.bytes()
+        }
+        (_, Some(array)) if number_in(subject.globals, array.size) == size => b"this",
+        _ => b"1",
+    }
+}
+
+/// A name with this size that has no index.
+fn no_index<'x>(
+    notes: &mut Notes<'_>,
+    subject: &Subject<'x, 'x>,
+    around: &Around<'x>,
+    size: i64,
+) -> Result<(), NoMemory> {
+    let mut example = Vec::from_slice(notes.alloc(), b"[")?;
+    put(&mut example, likely_index(subject, around, size))?;
+    put(&mut example, b"]")?;
+    point_at(
+        notes,
+        subject.name,
+        &[
+            Piece::Name(subject.name),
+            Piece::Words(" needs an index, as in "),
+            Piece::Code(example.as_slice()),
+        ],
+    )
+}
+
 /// S6.
 pub fn wrong_indices(notes: &mut Notes<'_>, subject: &Subject<'_, '_>) -> Result<(), NoMemory> {
     let indexed = match indexed_name(subject) {
         Some(indexed) => indexed,
         None => return Ok(()),
     };
+    if !has_number(subject, indexed.size) || !has_range(subject, &indexed) {
+        return Ok(());
+    }
     let name = subject.name;
     match (indexed.size, &indexed.mention.index) {
         (Some(size), Some(index)) => {
             let size = number_in(subject.globals, size);
             wrong_index(notes, &*subject, index, &indexed, size)?;
         }
-        (Some(_), None) => point_at(
-            notes,
-            name,
-            &[
-                Piece::Name(name),
-                Piece::Words(" needs an index, as in `[1]`"),
-            ],
-        )?,
+        (Some(size), None) => {
+            let size = number_in(subject.globals, size);
+            no_index(notes, &*subject, &indexed.around, size)?;
+        }
         (None, _) => point_behind(
             notes,
             name,

@@ -186,6 +186,50 @@ fn is_bus(body: &Body, name: &Text) -> bool {
         .any(|bus| bus.name.bytes() == name.bytes())
 }
 
+/// A member of a bus that is no child of its component.
+fn no_member<'x>(
+    notes: &mut Notes<'_>,
+    bus: &'x Text,
+    member: &'x Text,
+    state: &StateAt<'x>,
+) -> Result<(), NoMemory> {
+    point_at(
+        notes,
+        member,
+        &[
+            Piece::Words("the member "),
+            Piece::Name(member),
+            Piece::Words(" of the bus "),
+            Piece::Name(bus),
+            Piece::Words(" is no child of "),
+            Piece::Name(state.name),
+        ],
+    )?;
+    if is_bus(state.body, member) {
+        notes.say(&[Piece::Words("a bus is no member of a bus")])?;
+    }
+    tell_children(notes, member, state.body)
+}
+
+/// A member that stands in a bus before.
+fn repeated_member(notes: &mut Notes<'_>, bus: &Bus) -> Result<(), NoMemory> {
+    match member_again(bus) {
+        Some((first, member)) => point_at(
+            notes,
+            member,
+            &[
+                Piece::Words("the member "),
+                Piece::Name(member),
+                Piece::Words(" of the bus "),
+                Piece::Name(&bus.name),
+                Piece::Words(" stands there before, at "),
+                Piece::Place(first.at()),
+            ],
+        ),
+        None => Ok(()),
+    }
+}
+
 /// S11.
 pub fn wrong_bus(notes: &mut Notes<'_>, subject: &Subject<'_, '_>) -> Result<(), NoMemory> {
     let buses = subject.survey.buses.as_slice();
@@ -197,38 +241,9 @@ pub fn wrong_bus(notes: &mut Notes<'_>, subject: &Subject<'_, '_>) -> Result<(),
         Some(state) => state,
         None => return Ok(()),
     };
-    if let Some(member) = stranger(found.bus, state.body) {
-        point_at(
-            notes,
-            member,
-            &[
-                Piece::Words("the member "),
-                Piece::Name(member),
-                Piece::Words(" of the bus "),
-                Piece::Name(&found.bus.name),
-                Piece::Words(" is no child of "),
-                Piece::Name(state.name),
-            ],
-        )?;
-        if is_bus(state.body, member) {
-            notes.say(&[Piece::Words("a bus is no member of a bus")])?;
-        }
-        return tell_children(notes, member, state.body);
-    }
-    match member_again(found.bus) {
-        Some((first, member)) => point_at(
-            notes,
-            member,
-            &[
-                Piece::Words("the member "),
-                Piece::Name(member),
-                Piece::Words(" of the bus "),
-                Piece::Name(&found.bus.name),
-                Piece::Words(" stands there before, at "),
-                Piece::Place(first.at()),
-            ],
-        ),
-        None => Ok(()),
+    match stranger(found.bus, state.body) {
+        Some(member) => no_member(notes, &found.bus.name, member, state),
+        None => repeated_member(notes, found.bus),
     }
 }
 

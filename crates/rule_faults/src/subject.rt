@@ -1,3 +1,4 @@
+use crate::letters::tell_letters;
 use crate::near::nearest;
 use rsml_base::{NoMemory, Text};
 use rsml_names::{Globals, Known, children_of, name_of, values_of};
@@ -69,29 +70,67 @@ pub fn known_sort(known: &Known<'_>) -> Sort {
     }
 }
 
+/// What a name is declared as, in words, and behind them the name of its type.
+fn words_of<'a>(known: &Known<'a>) -> (&'static str, Option<&'a Text>) {
+    match known.decl {
+        Decl::Enumeration { name, .. } if known.value.is_some() => {
+            ("a value of the enumeration ", Some(name))
+        }
+        Decl::Input { kind, .. } => ("an input of the type ", Some(kind)),
+        _ => (known_sort(known).words(), None),
+    }
+}
+
+/// A name where there is one, and else nothing.
+fn name_or_nothing<'a>(name: Option<&'a Text>) -> Piece<'a> {
+    match name {
+        Some(name) => Piece::Name(name),
+        None => Piece::Words(""),
+    }
+}
+
 /// Tells where a name is declared, and as what.
 pub fn tell_known(notes: &mut Notes<'_>, known: &Known<'_>) -> Result<(), NoMemory> {
     let name = known_name(known);
-    let mut pieces = Vec::new(notes.alloc());
-    pieces.push(Piece::Name(name))?;
-    pieces.push(Piece::Words(" is "))?;
-    match known.decl {
-        Decl::Enumeration {
-            name: enumeration,
-            ..
-        } if known.value.is_some() => {
-            pieces.push(Piece::Words("a value of the enumeration "))?;
-            pieces.push(Piece::Name(enumeration))?;
-        }
-        Decl::Input { kind, .. } => {
-            pieces.push(Piece::Words("an input of the type "))?;
-            pieces.push(Piece::Name(kind))?;
-        }
-        _ => pieces.push(Piece::Words(known_sort(known).words()))?,
+    let (words, kind) = words_of(known);
+    notes.say(&[
+        Piece::Name(name),
+        Piece::Words(" is "),
+        Piece::Words(words),
+        name_or_nothing(kind),
+        Piece::Words(", declared at "),
+        Piece::Place(name.at()),
+    ])
+}
+
+/// Adds names, and behind the most that are told "others".
+fn add_names<'x>(pieces: &mut Vec<Piece<'x>>, names: &[&'x Text]) -> Result<(), NoMemory> {
+    for name in names.iter().take(MOST_NAMES) {
+        pieces.push(Piece::Name(name))?;
     }
-    pieces.push(Piece::Words(", declared at "))?;
-    pieces.push(Piece::Place(name.at()))?;
-    notes.say(pieces.as_slice())
+    if names.len() > MOST_NAMES {
+        pieces.push(Piece::Words("others"))?;
+    }
+    Ok(())
+}
+
+/// Names as a list in a sentence.
+fn list_of<'x>(alloc: Global, names: &[&'x Text]) -> Result<Vec<Piece<'x>>, NoMemory> {
+    let mut pieces = Vec::new(alloc);
+    add_names(&mut pieces, names)?;
+    listed(alloc, pieces.as_slice(), " and ")
+}
+
+/// Tells pieces behind some words.
+fn tell_behind(
+    notes: &mut Notes<'_>,
+    words: &'static str,
+    pieces: &[Piece<'_>],
+) -> Result<(), NoMemory> {
+    let mut line = Vec::new(notes.alloc());
+    line.push(Piece::Words(words))?;
+    line.extend_from_slice(pieces)?;
+    notes.say(line.as_slice())
 }
 
 /// Tells a list of names behind some words.
@@ -103,26 +142,30 @@ pub fn tell_names(
     if names.is_empty() {
         return Ok(());
     }
-    let mut pieces = Vec::new(notes.alloc());
-    for name in names.iter().take(MOST_NAMES) {
-        pieces.push(Piece::Name(name))?;
-    }
-    if names.len() > MOST_NAMES {
-        pieces.push(Piece::Words("others"))?;
-    }
-    let list = listed(notes.alloc(), pieces.as_slice(), " and ")?;
-    let mut line = Vec::new(notes.alloc());
-    line.push(Piece::Words(words))?;
-    line.extend_from_slice(list.as_slice())?;
-    notes.say(line.as_slice())
+    let list = list_of(notes.alloc(), names)?;
+    tell_behind(notes, words, list.as_slice())
 }
 
-/// Tells the name among these that is most like another.
+/// Tells the names of a list behind some words.
+pub fn tell_list(
+    notes: &mut Notes<'_>,
+    words: &'static str,
+    names: &[Text],
+) -> Result<(), NoMemory> {
+    let mut list = Vec::new(notes.alloc());
+    for name in names {
+        list.push(name)?;
+    }
+    tell_names(notes, words, list.as_slice())
+}
+
+/// Tells what letters of a name only look like Latin ones, and the name among these that is most like it.
 pub fn tell_nearest(
     notes: &mut Notes<'_>,
     name: &Text,
     others: &[&Text],
 ) -> Result<bool, NoMemory> {
+    tell_letters(notes, name.bytes())?;
     match nearest(notes.alloc(), name.bytes(), others)? {
         Some(other) => {
             notes.say(&[

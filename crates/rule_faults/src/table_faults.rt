@@ -86,19 +86,28 @@ fn wrong_row(
 ) -> Result<(), NoMemory> {
     let cells = row.cells.len();
     let first = width_of(table.rows);
-    let mut pieces = Vec::new(notes.alloc());
-    pieces.push(Piece::Words("row "))?;
-    pieces.push(Piece::Count(place.saturating_add(1)))?;
-    pieces.push(Piece::Words(" has "))?;
-    pieces.push(Piece::Count(cells))?;
-    pieces.push(Piece::Words(if cells == 1 { " cell" } else { " cells" }))?;
-    if cells != first {
-        pieces.push(Piece::Words("; the first row has "))?;
-        pieces.push(Piece::Count(first))?;
-    } else {
-        pieces.push(Piece::Words("; a row has 1 to 32"))?;
-    }
-    point_at_cells(notes, table.owner, row, pieces.as_slice())?;
+    point_at_cells(
+        notes,
+        table.owner,
+        row,
+        &[
+            Piece::Words("row "),
+            Piece::Count(place.saturating_add(1)),
+            Piece::Words(" has "),
+            Piece::Count(cells),
+            Piece::Words(if cells == 1 { " cell" } else { " cells" }),
+            Piece::Words(if cells == first {
+                "; a row has 1 to 32"
+            } else {
+                "; the first row has "
+            }),
+            if cells == first {
+                Piece::Words("")
+            } else {
+                Piece::Count(first)
+            },
+        ],
+    )?;
     if cells != first {
         return tell_first(notes, table.rows);
     }

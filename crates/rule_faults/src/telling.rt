@@ -1,4 +1,5 @@
-use crate::kind_faults::{unlike_kinds, wrong_function};
+use crate::case_faults::wrong_function;
+use crate::kind_faults::unlike_kinds;
 use crate::naming::{declared_again, repeated, undeclared, wrong_sort};
 use crate::sizes::{turned_range, wrong_indices, wrong_size};
 use crate::state_faults::{wrong_array, wrong_bus, wrong_children, wrong_ends, wrong_path};
@@ -32,6 +33,24 @@ fn tell_rule(notes: &mut Notes<'_>, rule: u8, subject: &Subject<'_, '_>) -> Resu
     }
 }
 
+/// The same by the global names.
+fn tell_by(
+    notes: &mut Notes<'_>,
+    spec: &Spec,
+    globals: &Globals<'_>,
+    rule: u8,
+    name: &Text,
+) -> Result<(), NoMemory> {
+    let survey = Survey::new(notes.alloc(), spec)?;
+    let subject = Subject {
+        spec,
+        globals,
+        survey: &survey,
+        name,
+    };
+    tell_rule(notes, rule, &subject)
+}
+
 /// Tells what is wrong at a name where a specification breaks the rule with this number.
 pub fn tell_broken(
     notes: &mut Notes<'_>,
@@ -40,12 +59,5 @@ pub fn tell_broken(
     name: &Text,
 ) -> Result<(), NoMemory> {
     let globals = Globals::new(notes.alloc(), spec.decls.as_slice())?;
-    let survey = Survey::new(notes.alloc(), spec)?;
-    let subject = Subject {
-        spec,
-        globals: &globals,
-        survey: &survey,
-        name,
-    };
-    tell_rule(notes, rule, &subject)
+    tell_by(notes, spec, &globals, rule, name)
 }

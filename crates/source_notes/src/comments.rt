@@ -83,6 +83,11 @@ impl Comments {
         }
     }
 
+    /// How many there are.
+    pub fn count(&self) -> usize {
+        self.lines.len()
+    }
+
     /// One more.
     pub fn add(&mut self, line: Line) -> Result<(), NoMemory> {
         self.lines.push(line)?;

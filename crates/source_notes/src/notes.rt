@@ -41,9 +41,14 @@ fn window_of(characters: usize, column: usize) -> Window {
     }
 }
 
-/// What is written in place of a byte: `?` where it may belong to no character.
+/// What is written in place of a byte: `?` where it may belong to no character, or would make a terminal do something.
 fn shown_byte(byte: u8, is_text: bool) -> u8 {
-    if is_text || byte < 128 { byte } else { b'?' }
+    let is_shown = match byte {
+        b'\t' => true,
+        0..=31 | 127 => false,
+        _ => is_text || byte < 128,
+    };
+    if is_shown { byte } else { b'?' }
 }
 
 /// Puts what is shown of a line, so many bytes of which are UTF-8.
@@ -114,6 +119,11 @@ impl<'t> Notes<'t> {
 
     pub fn text(&self) -> &'t [u8] {
         self.text
+    }
+
+    /// How many lines there are.
+    pub fn count(&self) -> usize {
+        self.comments.count()
     }
 
     /// A line with these bytes.

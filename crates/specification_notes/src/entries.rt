@@ -89,16 +89,36 @@ fn is_entered(survey: &Survey<'_>, targets: &IndexSet<u32>, state: &StateAt<'_>)
     is_entered_first(parent.body, state.name) || targets.contains(&state.name.at())
 }
 
-/// For each state whether it is the highest that is never entered: its parent is.
-pub fn missed_states(alloc: Global, survey: &Survey<'_>) -> Result<Vec<bool>, NoMemory> {
-    let targets = targets_of(alloc, survey)?;
+/// What is known of a state from those before it: whether it is entered, and whether it is the highest that is not.
+fn entry_of(
+    survey: &Survey<'_>,
+    targets: &IndexSet<u32>,
+    entered: &[bool],
+    state: &StateAt<'_>,
+) -> [bool; 2] {
+    let may = has_entered_parent(entered, state);
+    let is = is_entered(survey, targets, state);
+    [may && is, may && !is]
+}
+
+/// For each state whether it is the highest that is never entered, by the states on paths to targets.
+fn missed_of(
+    alloc: Global,
+    survey: &Survey<'_>,
+    targets: &IndexSet<u32>,
+) -> Result<Vec<bool>, NoMemory> {
     let mut entered = Vec::new(alloc);
     let mut missed = Vec::new(alloc);
     for state in survey.states.as_slice() {
-        let may = has_entered_parent(entered.as_slice(), state);
-        let is = is_entered(survey, &targets, state);
-        entered.push(may && is)?;
-        missed.push(may && !is)?;
+        let [is, is_missed] = entry_of(survey, targets, entered.as_slice(), state);
+        entered.push(is)?;
+        missed.push(is_missed)?;
     }
     Ok(missed)
+}
+
+/// For each state whether it is the highest that is never entered: its parent is.
+pub fn missed_states(alloc: Global, survey: &Survey<'_>) -> Result<Vec<bool>, NoMemory> {
+    let targets = targets_of(alloc, survey)?;
+    missed_of(alloc, survey, &targets)
 }

@@ -104,28 +104,44 @@ pub struct Reactions {
 }
 
 impl Reactions {
+    /// No state, and no event.
+    fn none(alloc: Global) -> Reactions {
+        Reactions {
+            sources: IndexSet::new(alloc),
+            at_any_index: IndexSet::new(alloc),
+            inside: IndexSet::new(alloc),
+            left: IndexSet::new(alloc),
+            busy: IndexSet::new(alloc),
+        }
+    }
+
     /// The reactions of a specification's states.
     pub fn new(
         alloc: Global,
         globals: &Globals<'_>,
         survey: &Survey<'_>,
     ) -> Result<Reactions, NoMemory> {
-        let mut reactions = Reactions {
-            sources: IndexSet::new(alloc),
-            at_any_index: IndexSet::new(alloc),
-            inside: IndexSet::new(alloc),
-            left: IndexSet::new(alloc),
-            busy: IndexSet::new(alloc),
-        };
+        let mut reactions = Reactions::none(alloc);
+        reactions.each_transition(alloc, globals, survey)?;
+        Ok(reactions)
+    }
+
+    /// All transitions.
+    fn each_transition(
+        &mut self,
+        alloc: Global,
+        globals: &Globals<'_>,
+        survey: &Survey<'_>,
+    ) -> Result<(), NoMemory> {
         for at in survey.transitions.as_slice() {
             let event = event_of(globals, &at.transition.trigger);
             if let Some(state) = survey.states.get(at.state) {
-                reactions.transition(state.body, at.transition, event)?;
+                self.transition(state.body, at.transition, event)?;
             }
             let around = states_around(alloc, survey, at.state)?;
-            reactions.inner(around.as_slice(), event)?;
+            self.inner(around.as_slice(), event)?;
         }
-        Ok(reactions)
+        Ok(())
     }
 
     /// A transition from a child.

@@ -39,15 +39,21 @@ fn tell_asleep(notes: &mut Notes<'_>, state: &Text) -> Result<(), NoMemory> {
     )
 }
 
-/// Names as a list in a sentence.
-fn names_told<'x>(alloc: Global, names: &[&'x Text]) -> Result<Vec<Piece<'x>>, NoMemory> {
-    let mut pieces = Vec::new(alloc);
+/// Adds names, and after the most that there are of "others".
+fn add_names<'x>(pieces: &mut Vec<Piece<'x>>, names: &[&'x Text]) -> Result<(), NoMemory> {
     for name in names.iter().take(MOST_NAMES) {
         pieces.push(Piece::Name(name))?;
     }
     if names.len() > MOST_NAMES {
         pieces.push(Piece::Words("others"))?;
     }
+    Ok(())
+}
+
+/// Names as a list in a sentence.
+fn names_told<'x>(alloc: Global, names: &[&'x Text]) -> Result<Vec<Piece<'x>>, NoMemory> {
+    let mut pieces = Vec::new(alloc);
+    add_names(&mut pieces, names)?;
     listed(alloc, pieces.as_slice(), " and ")
 }
 
@@ -63,12 +69,14 @@ fn tell_deaf<'x>(
         None => return Ok(()),
     };
     let mut pieces = names_told(notes.alloc(), deaf)?;
-    pieces.push(Piece::Words(if deaf.len() == 1 { " does" } else { " do" }))?;
-    pieces.push(Piece::Words(" not react to the event "))?;
-    pieces.push(Piece::Code(event))?;
-    pieces.push(Piece::Words("; other children of "))?;
-    pieces.push(Piece::Name(component))?;
-    pieces.push(Piece::Words(" do"))?;
+    pieces.extend_from_slice(&[
+        Piece::Words(if deaf.len() == 1 { " does" } else { " do" }),
+        Piece::Words(" not react to the event "),
+        Piece::Code(event),
+        Piece::Words("; other children of "),
+        Piece::Name(component),
+        Piece::Words(" do"),
+    ])?;
     tell(notes, first, pieces.as_slice())
 }
 
@@ -119,6 +127,17 @@ impl<'s, 'a> Subject<'s, 'a> {
         tell_deaf(notes, state.name, code.as_slice(), deaf.as_slice())
     }
 
+    /// Notes on each state, of which these are never entered.
+    fn tell_each(&self, notes: &mut Notes<'_>, missed: &[bool]) -> Result<(), NoMemory> {
+        for (place, state) in self.survey.states.as_slice().iter().enumerate() {
+            if missed.get(place) == Some(&true) {
+                tell_missed(notes, state.name)?;
+            }
+            self.tell_component(notes, place, state)?;
+        }
+        Ok(())
+    }
+
     /// Notes on the children of the component at a place.
     fn tell_component(
         &self,
@@ -152,11 +171,5 @@ pub fn tell_states(
         survey,
         reactions: &reactions,
     };
-    for (place, state) in survey.states.as_slice().iter().enumerate() {
-        if let Some(true) = missed.get(place) {
-            tell_missed(notes, state.name)?;
-        }
-        subject.tell_component(notes, place, state)?;
-    }
-    Ok(())
+    subject.tell_each(notes, missed.as_slice())
 }

@@ -4,12 +4,11 @@ ghost use Rattle.rsml_meaning.specs.Words.{Path as Steps, at, child_path, place_
 ghost use Rattle.rsml_meaning.specs.Instances as instances;
 ghost use Rattle.state_arrays.specs.Places.{cell_place, previous_place, definition_place, receive_place, send_place, path_place, path_at};
 
-use crate::declared::events;
 use crate::input_names::InputNames;
 use crate::instances::Instances;
 use crate::interface_names::InterfaceNames;
+use crate::named::all_named;
 use crate::paths::Paths;
-use previous_names::previous_names;
 use rsml_names::Globals;
 use rsml_syntax::{Checked, NoMemory, Path, Spec};
 use std::alloc::Global;
@@ -48,18 +47,14 @@ impl<'a> Names<'a> {
         ensures { IfOk result (λ names. names ≡ checked.now) }
     {
         let spec = checked.spec();
-        let decls = spec.decls.as_slice();
-        let globals = Globals::new(alloc, decls)?;
-        let after_previous = previous_names(alloc, spec)?;
-        let events = events(alloc, &globals, decls)?;
-        let cells = InputNames::new(alloc, &globals, &after_previous, decls)?;
-        let interfaces = InterfaceNames::new(alloc, &globals, decls)?;
         let paths = Paths::new(alloc, checked)?;
+        let globals = Globals::new(alloc, spec.decls.as_slice())?;
+        let named = all_named(alloc, &globals, spec)?;
         Ok(Names {
             spec,
-            events,
-            cells,
-            interfaces,
+            events: named.events,
+            cells: named.cells,
+            interfaces: named.interfaces,
             paths,
         })
     }

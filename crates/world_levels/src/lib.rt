@@ -13,6 +13,3 @@ mod tables;
 pub use laws::world_laws;
 pub use layout::Layout;
 pub use place::Place;
-
-#[cfg(test)]
-mod tests;

@@ -110,15 +110,10 @@ pub fn lowest_breach<'a>(
     found(alloc, &worst)
 }
 
-/// The first breaches of all rules, at most 64, in the order in which the rules are judged. The only error is out of memory. Nothing is
-/// claimed of which they are.
-pub fn first_breaches(alloc: Global, spec: &Spec) -> Result<Vec<Breach>, NoMemory> {
-    let tables = NameTables::new(alloc, spec)?;
-    let setting = Setting::new(alloc, &tables)?;
-    let mut worst = Worst::new();
-    spec_judged(alloc, &setting, spec, &mut worst)?;
+/// Copies of breaches.
+fn copies(alloc: Global, first: &[Option<(u8, &Text)>]) -> Result<Vec<Breach>, NoMemory> {
     let mut breaches = Vec::new(alloc);
-    for breach in worst.first() {
+    for breach in first {
         if let Some((rule, name)) = breach {
             breaches.push(Breach {
                 rule: *rule,
@@ -127,4 +122,25 @@ pub fn first_breaches(alloc: Global, spec: &Spec) -> Result<Vec<Breach>, NoMemor
         }
     }
     Ok(breaches)
+}
+
+/// The first breaches of all rules, by the tables of names.
+fn first_by<'a>(
+    alloc: Global,
+    tables: &NameTables<'a>,
+    spec: &'a Spec,
+) -> Result<Vec<Breach>, NoMemory>
+    requires { tables.now ≡ rules.name_tables spec.now }
+{
+    let setting = Setting::new(alloc, tables)?;
+    let mut worst = Worst::new();
+    spec_judged(alloc, &setting, spec, &mut worst)?;
+    copies(alloc, worst.first())
+}
+
+/// The first breaches of all rules, at most 64, in the order in which the rules are judged. The only error is out of memory. Nothing is
+/// claimed of which they are.
+pub fn first_breaches(alloc: Global, spec: &Spec) -> Result<Vec<Breach>, NoMemory> {
+    let tables = NameTables::new(alloc, spec)?;
+    first_by(alloc, &tables, spec)
 }
