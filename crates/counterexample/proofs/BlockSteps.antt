@@ -12,7 +12,7 @@ use Rattle.rsml_syntax.specs.declared.world.World.{World}
 use Rattle.rsml_meaning.specs.Cells.{InputCell, cells}
 use Rattle.rsml_meaning.specs.Worlds.{IsWorld}
 use Rattle.guard_encode.specs.declared.reading.ReadParts.{ReadParts}
-use Rattle.guard_encode.specs.Encoding.{Encoding, Keeps, Tells}
+use Rattle.guard_encode.specs.Encoding.{Encoding, Finds, Keeps, Tells}
 use Rattle.guard_encode.proofs.FindLemmas.{found_on}
 use Rattle.guard_encode.proofs.StepLemmas.{keeps_on}
 use Rattle.counterexample.specs.Narrowing.{IsOfNone, Narrows, IsLow, IsOfRead, AreLeast, AreUnread, low_of, lows}
@@ -151,6 +151,18 @@ on_still a b read xs f ab = λ first g fa before truth found of_read some.
       found = found_on a b t.next f ab t.found;
       of_read = on_new (λ s. IsOfRead s read t.next) a b ab t.of_read;
       narrows = on_new (λ s. Narrows (IsLow s read) (slice_cmp int_cmp) (λ w. take (length xs) w.cells) xs truth t.next) a b ab t.narrows;
+    }
+
+-- the same worlds, found by another function
+pub on_again : (a b c : Encoding) (read : ReadParts) (xs ys : List ℤ) (f g r : ℕ) → Keeps b c → NarrowedOn a b read xs ys f g
+    → ((truth : World → Bool) → Finds b truth g → Finds c truth r) → NarrowedOn a c read xs ys f r
+on_again a b c read xs ys f g r bc on again = λ first h fa before truth found of_read some.
+    let t = on first h fa before truth found of_read some in
+    record {
+      next = t.next;
+      found = again t.next t.found;
+      of_read = on_new (λ s. IsOfRead s read t.next) b c bc t.of_read;
+      narrows = on_new (λ s. Narrows (IsLow s read) (slice_cmp int_cmp) (λ w. take (length ys) w.cells) ys truth t.next) b c bc t.narrows;
     }
 
 -- more numbers, and then more

@@ -69,8 +69,9 @@ pub(crate) fn with_low_block(
     let from = numbers.len();
     match low_block(alloc, encoder, read, from, end, f)? {
         Some(rest) => {
+            let known = encoder.with_exact(alloc, rest, end)?;
             push_lows(encoder.machine().worlds(), numbers, end)?;
-            Ok(rest)
+            Ok(known)
         }
         None => Ok(f),
     }

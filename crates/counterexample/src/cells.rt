@@ -13,6 +13,7 @@ use bdd_core::Ref;
 use guard_encode::{Encoder, ReadParts};
 use rsml_base::{List, NoMemory};
 use std::alloc::Global;
+use worlds::Worlds;
 
 /// The least numbers with which `f` is true in some world.
 pub(crate) fn least_cells(
@@ -37,8 +38,8 @@ pub(crate) fn least_cells(
     Ok(numbers)
 }
 
-/// The numbers up to the end of the next block with so many cells that are read, where these have their least numbers together.
-/// Otherwise those up to one of them that does not. With them how many to try next.
+/// The numbers up to the end of the next block with so many cells that are read, where these have their least numbers together, or where
+/// there is only one. Otherwise those up to one of them that does not. With them how many to try next.
 fn more_numbers(
     alloc: Global,
     encoder: &mut Encoder<'_, '_>,
@@ -59,6 +60,9 @@ fn more_numbers(
 {
     let from = numbers.len();
     let end = block_end(read, from, many, encoder.machine().cells());
+    if many == 1 {
+        return one_alone(alloc, encoder, read, numbers, end, f);
+    }
     let rest = with_low_block(alloc, encoder, read, numbers, end, f)?;
     if numbers.len() == end {
         return Ok((rest, many.saturating_mul(2)));
@@ -66,6 +70,40 @@ fn more_numbers(
     let tried = count_read(read, from, end);
     let rest = up_to_higher(alloc, encoder, read, numbers, tried, rest)?;
     Ok((rest, many - many / 2))
+}
+
+/// The numbers up to the end of a block in which one cell is read at most, and how many cells to try next.
+fn one_alone(
+    alloc: Global,
+    encoder: &mut Encoder<'_, '_>,
+    read: &ReadParts,
+    numbers: &mut List<i64>,
+    end: usize,
+    f: Ref,
+) -> Result<(Ref, usize), NoMemory>
+    requires f_ref { IsRef encoder.old.diagram f }
+    requires from { length numbers.old < end }
+    requires end { end ≤ length (all_cells encoder.old.machine.base.spec) }
+    ensures keeps { Keeps encoder.old encoder.new }
+    ensures is_ref { IfOk result (λ found. IsRef encoder.new.diagram found.0) }
+    ensures many { IfOk result (λ found. 0 < found.1) }
+    ensures end { IfOk result (λ found. length numbers.new ≡ end) }
+    ensures answer { IfOk result (λ found. NarrowedOn encoder.old encoder.new read.now numbers.old numbers.new f found.0) }
+{
+    let rest = one_by_one(alloc, encoder, read, numbers, end, f)?;
+    let many = after_one(encoder.machine().worlds(), numbers.as_slice())?;
+    Ok((rest, many))
+}
+
+/// How many cells to try together after one alone: two only where that one has its least number.
+fn after_one(worlds: &Worlds<'_>, numbers: &[i64]) -> Result<usize, NoMemory>
+    requires some { 0 < length numbers.now }
+    requires within { length numbers.now ≤ length (all_cells worlds.now) }
+    ensures { IfOk result (λ many. 0 < many) }
+{
+    let last = numbers.len() - 1;
+    let low = worlds.low(cell_number(last)?);
+    Ok(if numbers[last] == low { 2 } else { 1 })
 }
 
 /// The numbers up to a cell that does not have its least of all: one of the next so many that are read.

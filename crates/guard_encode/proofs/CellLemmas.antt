@@ -17,7 +17,7 @@ use Rattle.world_sums.specs.Tells as exact
 use Rattle.elaborate.specs.Machine.{GroundMachine}
 use Rattle.free_levels.specs.Values.{is_in}
 use Rattle.keyed_levels.specs.Keyed.{KeyedWorlds}
-use Rattle.settled_worlds.specs.Settled.{DependsOn, IsProjected, cell_levels}
+use Rattle.settled_worlds.specs.Settled.{DependsOn, IsProjected, IsSameLawfully, cell_levels}
 use Rattle.guard_encode.specs.Encoding.{Encoding, IsOfCell, Keeps, encoding_of, is_at_most, worlds_of}
 use Rattle.guard_encode.proofs.DecidedLemmas.{same_worlds}
 
@@ -91,6 +91,11 @@ pub own_projected : (m : GroundMachine) (k : KeyedWorlds) (d new : Diagram) (cel
     → IsProjected d new (worlds_of (encoding_of m k d)) (cell_levels (worlds_of (encoding_of m k d)) cell) f r
 own_projected m k d new cell f r same projected =
     subst (λ (g : Grounded). IsProjected d new (record k { base = g }) (cell_levels (record k { base = g }) cell) f r) same projected
+
+-- what is the same at lawful values of an encoder's own levels
+pub own_same : (m : GroundMachine) (k : KeyedWorlds) (d new : Diagram) (f r : ℕ) → k.base ≡ m.base → IsSameLawfully d new k f r
+    → IsSameLawfully d new (worlds_of (encoding_of m k d)) f r
+own_same m k d new f r same lawfully = subst (λ (g : Grounded). IsSameLawfully d new (record k { base = g }) f r) same lawfully
 
 -- a cell has at most a number, at all values of the levels
 pub below_told : (m : GroundMachine) (k : KeyedWorlds) (levels : WorldLevels) (d first : Diagram) (cell : ℕ) (n : ℤ) (r : ℕ) → k.base ≡ m.base → levels.spec ≡ k.base.spec → levels.slots ≡ k.slots

@@ -13,7 +13,7 @@ use Rattle.world_levels.specs.Laws.{EachWorldIsSpelled, FreeLevelsStay}
 use Rattle.elaborate.specs.Machine.{GroundMachine}
 use Rattle.keyed_levels.specs.Keyed.{KeyedWorlds, AreKeyed, Lawful, world_at}
 use Rattle.keyed_levels.specs.Laws.{EachWorldIsSpelledLawfully, LawfulValuesSpellWorlds}
-use Rattle.settled_worlds.specs.Settled.{IsProjected, IsSettled, cell_levels}
+use Rattle.settled_worlds.specs.Settled.{IsProjected, IsSameLawfully, IsSettled, cell_levels}
 use Rattle.guard_encode.specs.Encoding.{Encoding, Finds, FindsAt, FindsExactly, IsOfCell, Keeps, Tells, encoding_of, is_at_most, worlds_of}
 use Rattle.guard_encode.specs.Spelling.{IsNumber}
 use Rattle.guard_encode.proofs.CellLemmas.{depends}
@@ -39,6 +39,15 @@ found_at_on old new k truth r keeps found = record {
 pub found_on : (old new : Encoding) (truth : World → Bool) (r : ℕ) → Keeps old new → Finds old truth r → Finds new truth r
 found_on old new truth r keeps found =
     subst (λ (k : KeyedWorlds). FindsAt new.diagram k truth r) (sym (same_worlds old new keeps)) (found_at_on old.diagram new.diagram (worlds_of old) truth r keeps.diagram found)
+
+-- and so is a function that is the same at lawful values
+pub found_same : (old new : Encoding) (truth : World → Bool) (f r : ℕ) → Keeps old new → IsSameLawfully old.diagram new.diagram (worlds_of old) f r → Finds old truth f → Finds new truth r
+found_same old new truth f r keeps same found =
+    subst (λ (k : KeyedWorlds). FindsAt new.diagram k truth r) (sym (same_worlds old new keeps)) (record {
+      is_ref = same.is_ref;
+      spelled = λ w free is lawful. same.same (spelled_world old.machine.base.spec old.slots w free) lawful ∙ found.spelled w free is lawful;
+      others = λ v lawful not. same.same v lawful ∙ found.others v lawful not;
+    })
 
 and_false : (b : Bool) → (b && false) ≡ false
 and_false true = refl

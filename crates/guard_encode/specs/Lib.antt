@@ -4,3 +4,4 @@ pub mod Marking
 pub mod Reading
 pub mod Spelling
 pub mod Holding
+pub mod Opposites

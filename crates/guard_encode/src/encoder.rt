@@ -8,7 +8,7 @@ use crate::phrases::all_phrases;
 use bdd_core::{Arena, Ref};
 use elaborate::Machine;
 use keyed_levels::KeyedLevels;
-use level_order::order;
+use level_order::{first_alike, order};
 use linear_bits::SumTable;
 use rsml_base::NoMemory;
 use rsml_ground::GroundGuard;
@@ -54,16 +54,18 @@ impl<'m, 'a> Encoder<'m, 'a> {
     pub fn new(alloc: Global, machine: &'m Machine<'a>) -> Result<Encoder<'m, 'a>, NoMemory>
         ensures { IfOk result (λ e. e.machine ≡ machine.now) }
     {
-        let order = order(alloc, machine)?;
+        let alike = first_alike(alloc, machine.macros())?;
+        let order = order(alloc, machine, alike.as_slice())?;
         let levels = KeyedLevels::new(alloc, machine.macros(), machine.worlds(), order.as_slice())?;
-        Encoder::over(alloc, machine, levels)
+        Encoder::over(alloc, machine, levels, alike.as_slice())
     }
 
-    /// The same, over these levels.
+    /// The same, over these levels, with the first comparison that is like each phrase.
     fn over(
         alloc: Global,
         machine: &'m Machine<'a>,
         levels: KeyedLevels<'m, 'a>,
+        alike: &[u32],
     ) -> Result<Encoder<'m, 'a>, NoMemory>
         requires { levels.base ≡ machine.now.base }
         ensures { IfOk result (λ e. e.machine ≡ machine.now) }
@@ -79,7 +81,14 @@ impl<'m, 'a> Encoder<'m, 'a> {
             levels.layout(),
             machine.tree(),
         )?;
-        let phrases = all_phrases(alloc, &mut arena, &mut sums, &levels, active.as_slice())?;
+        let phrases = all_phrases(
+            alloc,
+            &mut arena,
+            &mut sums,
+            &levels,
+            active.as_slice(),
+            alike,
+        )?;
         Ok(Encoder {
             machine,
             levels,

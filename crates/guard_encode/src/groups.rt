@@ -48,8 +48,10 @@ impl<'m, 'a> Encoder<'m, 'a> {
         let machine = self.machine;
         machine.law();
         let transition = machine.transition(number);
-        let guard = self.guard(&transition.guard)?;
-        let active = self.active(transition.source);
+        let source = transition.source();
+        let tested = transition.guard();
+        let guard = self.guard(tested)?;
+        let active = self.active(source);
         self.and(active, guard)
     }
 
@@ -62,7 +64,8 @@ impl<'m, 'a> Encoder<'m, 'a> {
         let machine = self.machine;
         machine.law();
         let case = machine.send_case(number);
-        self.guard(&case.guard)
+        let tested = case.guard();
+        self.guard(tested)
     }
 
     /// Where a case of a function has a true guard.

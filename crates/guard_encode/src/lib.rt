@@ -10,6 +10,7 @@ mod fixing;
 mod groups;
 mod holding;
 mod of_cell;
+mod opposites;
 mod phrase;
 mod phrases;
 mod reading;

@@ -6,14 +6,14 @@ ghost use Rattle.rsml_meaning.specs.Worlds.{IsWorld};
 ghost use Rattle.bdd_core.specs.Diagram.{IsRef, meaning};
 ghost use Rattle.bdd_core.specs.Calls.{Represents};
 ghost use Rattle.keyed_levels.specs.Keyed.{AreKeyed};
-ghost use Rattle.settled_worlds.specs.Settled.{cell_levels, IsProjected};
+ghost use Rattle.settled_worlds.specs.Settled.{cell_levels, IsProjected, IsSameLawfully};
 ghost use Rattle.guard_encode.specs.Encoding.{Finds, IsOfCell, Keeps, is_at_most, worlds_of};
 
 use crate::encoder::Encoder;
 use bdd_core::Ref;
 use keyed_levels::keyed_laws;
 use rsml_base::NoMemory;
-use settled_worlds::project;
+use settled_worlds::{project, with_exact};
 use std::alloc::Global;
 use world_levels::world_laws;
 
@@ -42,6 +42,34 @@ impl<'m, 'a> Encoder<'m, 'a> {
         let below = self.below(cell, number)?;
         let both = self.both(r, below)?;
         Ok(!self.is_false(both))
+    }
+
+    /// `f` with the comparisons made exact that name none but the first so many cells. It finds the same worlds. Where these cells have
+    /// one number each in all of them, it depends on none of these comparisons any more.
+    pub fn with_exact(&mut self, alloc: Global, f: Ref, cells: usize) -> Result<Ref, NoMemory>
+        requires { IsRef self.old.diagram f }
+        ensures keeps { Keeps self.old self.new }
+        ensures is_ref { IfOk result (IsRef self.new.diagram) }
+        ensures answer { IfOk result (λ r. (truth : World → Bool) → Finds self.old truth f → Finds self.new truth r) }
+    {
+        self.exactly(alloc, f, cells)
+    }
+
+    /// The same, as a function that is what `f` is at lawful values.
+    fn exactly(&mut self, alloc: Global, f: Ref, cells: usize) -> Result<Ref, NoMemory>
+        requires { IsRef self.old.diagram f }
+        ensures keeps { Keeps self.old self.new }
+        ensures answer { IfOk result (IsSameLawfully self.old.diagram self.new.diagram (worlds_of self.old) f) }
+    {
+        with_exact(
+            alloc,
+            &mut self.arena,
+            &mut self.sums,
+            &self.levels,
+            &mut self.exact,
+            cells,
+            f,
+        )
     }
 
     /// A function that tells of the levels of a cell what `f` does at lawful values.

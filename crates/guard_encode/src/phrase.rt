@@ -16,6 +16,7 @@ ghost use Rattle.keyed_levels.specs.Keyed.{Tells};
 ghost use Rattle.guard_encode.specs.Phrases.{AreActive, ArePhrases, TellsNext};
 
 use crate::cases::some_case;
+use crate::opposites::{first_like, key_of_opposite};
 use crate::test::Test;
 use bdd_core::{Arena, Ref};
 use keyed_levels::KeyedLevels;
@@ -28,7 +29,7 @@ use std::alloc::Global;
 use world_levels::Layout;
 use world_sums::compare;
 
-/// The diagram of the next phrase.
+/// The diagram of the next phrase. Of comparisons that are alike the first may have a level.
 pub fn next(
     alloc: Global,
     arena: &mut Arena,
@@ -36,6 +37,7 @@ pub fn next(
     levels: &KeyedLevels<'_, '_>,
     active: &[Ref],
     diagrams: &[Ref],
+    alike: &[u32],
     number: u32,
 ) -> Result<Ref, NoMemory>
     requires room { arena.old.levels ≡ length levels.now.slots }
@@ -56,7 +58,12 @@ pub fn next(
             left,
             relation,
             right,
-        } => of_comparison(alloc, arena, sums, levels, number, left, *relation, right),
+        } => {
+            let like = first_like(alike, number);
+            of_comparison(
+                alloc, arena, sums, levels, number, like, left, *relation, right,
+            )
+        }
         GroundPhrase::Function {
             function,
             relation,
@@ -131,13 +138,15 @@ fn of_function(
     }
 }
 
-/// Where a relation holds between two sums: the level that stands for it, or where it has none the exact diagram.
+/// Where a relation holds between two sums: the level that stands for it, or where its opposite has one the negation of that, or
+/// else the exact diagram.
 fn of_comparison(
     alloc: Global,
     arena: &mut Arena,
     sums: &mut SumTable,
     levels: &KeyedLevels<'_, '_>,
     number: u32,
+    like: u32,
     left: &GroundSum,
     relation: Relation,
     right: &GroundSum,
@@ -151,6 +160,12 @@ fn of_comparison(
 {
     match levels.key_of(number) {
         Some(place) => arena.var(levels.keys()[place as usize].level),
-        None => compare(alloc, arena, sums, levels.layout(), left, relation, right),
+        None => match key_of_opposite(levels, like, left, relation, right) {
+            Some(place) => {
+                let opposite = arena.var(levels.keys()[place as usize].level)?;
+                arena.not(opposite)
+            }
+            None => compare(alloc, arena, sums, levels.layout(), left, relation, right),
+        },
     }
 }

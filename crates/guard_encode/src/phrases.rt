@@ -17,6 +17,7 @@ pub fn all_phrases(
     sums: &mut SumTable,
     levels: &KeyedLevels<'_, '_>,
     active: &[Ref],
+    alike: &[u32],
 ) -> Result<Vec<Ref>, NoMemory>
     requires room { arena.old.levels ≡ length levels.now.slots }
     requires active { AreActive arena.old levels.now active.now }
@@ -32,6 +33,7 @@ pub fn all_phrases(
             levels,
             active,
             diagrams.as_slice(),
+            alike,
             number,
         )?;
         diagrams.push(diagram)?;

@@ -4,3 +4,4 @@ pub mod PartLemmas
 pub mod StepLemmas
 pub mod EndLemmas
 pub mod VisitLemmas
+pub mod SameLemmas

@@ -18,6 +18,11 @@ pub record IsSettled (old new : Diagram) (k : KeyedWorlds) (f r : ℕ) : Type 0 
   pub is_ref : IsRef new r
   pub none : ((values : ℕ → Bool) → meaning new r values ≡ false) ↔ ((values : ℕ → Bool) → Lawful k values → meaning old f values ≡ false)
 
+-- at lawful values r is what f is
+pub record IsSameLawfully (old new : Diagram) (k : KeyedWorlds) (f r : ℕ) : Type 0 where
+  pub is_ref : IsRef new r
+  pub same : (values : ℕ → Bool) → Lawful k values → meaning new r values ≡ meaning old f values
+
 -- the levels of a cell
 abbrev pub cell_levels : KeyedWorlds → ℕ → List ℕ
 cell_levels k cell = map (λ t. t.level) (bits_of (cell_part k.base.spec cell) false k.slots 0)

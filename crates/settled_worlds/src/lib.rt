@@ -11,7 +11,9 @@ mod reading;
 mod settling;
 mod striking;
 mod sweeping;
+mod within;
 
 pub use exact_keys::ExactKeys;
 pub use settling::{project, settle};
 pub use striking::{is_used, used_levels};
+pub use within::with_exact;

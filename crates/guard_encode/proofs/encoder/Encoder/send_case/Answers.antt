@@ -8,12 +8,14 @@ use Rattle.guard_encode.proofs.encoder.Encoder.send_case.Goals as goal
 
 pub guard-requires : goal.guard-requires
 guard-requires c =
-    subst (λ (e : Encoding). GuardFits (length e.machine.base.phrases) c.send_case-case.result.now.guard) c.self.view_is
-    (send_case_fits c.self.inside.machine.now c.args.number c.send_case-case.result.now c.law.ensures c.send_case-case.ensures)
+    subst (λ (e : Encoding). GuardFits (length e.machine.base.phrases) c.guard-tested.result.now) c.self.view_is
+    (subst (GuardFits (length c.self.inside.machine.now.base.phrases)) (sym c.guard-tested.ensures)
+    (send_case_fits c.self.inside.machine.now c.args.number c.send_case-case.result.now c.law.ensures c.send_case-case.ensures))
 
 pub returns-clause-answer : goal.returns-clause-answer
 returns-clause-answer c =
     let same : c.guard.new.self.machine ≡ c.self.inside.machine.now = c.guard.ensures.keeps.machine ∙ sym (ap (λ (e : Encoding). e.machine) c.self.view_is) in
-    IfOk-weaker c.guard.result (Tells c.guard.new.self (λ w. guard_truth (truths_in c.guard.new.self.machine.base w) c.send_case-case.result.now.guard)) _
-    (λ r h. send_case_told c.guard.new.self c.self.inside.machine.now c.guard.new.self.machine c.args.number r c.send_case-case.result.now same c.send_case-case.ensures h)
+    IfOk-weaker c.guard.result (Tells c.guard.new.self (λ w. guard_truth (truths_in c.guard.new.self.machine.base w) c.guard-tested.result.now)) _
+    (λ r h. send_case_told c.guard.new.self c.self.inside.machine.now c.guard.new.self.machine c.args.number r c.send_case-case.result.now same c.send_case-case.ensures
+    (subst (λ g. Tells c.guard.new.self (λ w. guard_truth (truths_in c.guard.new.self.machine.base w) g) r) c.guard-tested.ensures h))
     c.guard.ensures.answer

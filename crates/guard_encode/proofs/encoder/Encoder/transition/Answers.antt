@@ -13,14 +13,16 @@ use Rattle.guard_encode.proofs.encoder.Encoder.transition.Goals as goal
 
 pub guard-requires : goal.guard-requires
 guard-requires c =
-    subst (λ (e : Encoding). GuardFits (length e.machine.base.phrases) c.transition-transition.result.now.guard) c.self.view_is
-    (transition_fits c.self.inside.machine.now c.args.number c.transition-transition.result.now c.law.ensures c.transition-transition.ensures)
+    subst (λ (e : Encoding). GuardFits (length e.machine.base.phrases) c.guard-tested.result.now) c.self.view_is
+    (subst (GuardFits (length c.self.inside.machine.now.base.phrases)) (sym c.guard-tested.ensures)
+    (transition_fits c.self.inside.machine.now c.args.number c.transition-transition.result.now c.law.ensures c.transition-transition.ensures))
 
 pub active-active-requires : goal.active-active-requires
 active-active-requires c =
     let same : c.guard.new.self.machine ≡ c.self.inside.machine.now = c.guard.ensures.keeps.machine ∙ sym (ap (λ (e : Encoding). e.machine) c.self.view_is) in
-    subst (λ (m : GroundMachine). c.transition-transition.result.now.source < length (states m.base.spec)) (sym same)
-    (source_there c.self.inside.machine.now c.args.number c.transition-transition.result.now c.law.ensures c.transition-transition.ensures)
+    subst (λ (m : GroundMachine). c.source-source.result < length (states m.base.spec)) (sym same)
+    (subst (λ n. n < length (states c.self.inside.machine.now.base.spec)) (sym c.source-source.ensures)
+    (source_there c.self.inside.machine.now c.args.number c.transition-transition.result.now c.law.ensures c.transition-transition.ensures))
 
 pub returns-clause-answer : goal.returns-clause-answer
 returns-clause-answer c =
@@ -32,5 +34,6 @@ returns-clause-answer c =
     IfOk-weaker c.and.result _ _
     (λ r h. subst (λ (m : GroundMachine). Tells c.and.new.self (λ w. enabled_at m w (members.Transition c.args.number)) r) (sym c.and.ensures.keeps.machine)
     (transition_told c.and.new.self c.self.inside.machine.now e.machine c.args.number r x same c.transition-transition.ensures
-    (h active guard c.active-active.ensures c.in_ok-guard.ensures.answer)))
+    (h active guard (subst (λ n. Tells c.guard.new.self (λ w. is_active e.machine.base.spec w n) c.active-active.result) c.source-source.ensures c.active-active.ensures)
+    (subst (λ g. Tells c.guard.new.self (λ w. guard_truth (truths_in e.machine.base w) g) c.in_ok-guard.guard) c.guard-tested.ensures c.in_ok-guard.ensures.answer))))
     c.and.ensures.answer
