@@ -20,9 +20,9 @@ fn are_on_one_line(machine: &Machine<'_>, one: u32, two: u32) -> bool {
         return false;
     };
     let tree = machine.tree();
-    one.source < tree.nodes()
-        && two.source < tree.nodes()
-        && tree.on_one_line(one.source, two.source)
+    one.source() < tree.nodes()
+        && two.source() < tree.nodes()
+        && tree.on_one_line(one.source(), two.source())
 }
 
 /// The first of these transitions whose source lies on one line with that of another.
@@ -61,7 +61,7 @@ fn cases_on<'m>(machine: &'m Machine<'_>, event: u32) -> &'m [u32] {
 /// The send of a case.
 pub fn send_of(machine: &Machine<'_>, case: u32) -> Option<u32> {
     let case = machine.all_send_cases().get(case as usize)?;
-    Some(case.send)
+    Some(case.send())
 }
 
 /// The first of these cases that is of a send.

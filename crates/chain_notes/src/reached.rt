@@ -39,7 +39,7 @@ pub fn transitions_on<'m>(machine: &'m Machine<'_>, event: u32) -> &'m [u32] {
 /// The events that a transition raises.
 fn raised_by<'m>(machine: &'m Machine<'_>, transition: u32) -> &'m [u32] {
     match machine.all_transitions().get(transition as usize) {
-        Some(transition) => transition.raises.as_slice(),
+        Some(transition) => transition.raises(),
         None => &[],
     }
 }

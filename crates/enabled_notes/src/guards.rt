@@ -2,7 +2,7 @@
 
 use and_or_tables::GroundRow;
 use elaborate::Machine;
-use ground_members::{GroundSendCase, GroundTransition};
+use ground_members::{SharedSendCase, SharedTransition};
 use rsml_base::{NoMemory, Text};
 use rsml_ground::{Definition, GroundCase, GroundGuard};
 use rsml_names::{Globals, name_of, size_of, transitions_of};
@@ -52,19 +52,19 @@ fn rows_of_guard(guard: &GroundGuard) -> &[GroundRow] {
 }
 
 /// Where a transition stands.
-fn site_of_transition(machine: &Machine<'_>, transition: &GroundTransition) -> Option<Site> {
+fn site_of_transition(machine: &Machine<'_>, transition: &SharedTransition) -> Option<Site> {
     let tree = machine.tree();
-    let component = tree.parent(transition.source)?;
+    let component = tree.parent(transition.source())?;
     let body = tree.states().body(component)?;
-    let place = (transition.ordinal as usize).saturating_sub(1);
+    let place = (transition.ordinal() as usize).saturating_sub(1);
     let written = transitions_of(body).get(place)?;
     Some(site_of(&written.source))
 }
 
 /// Where a case of a send stands: at its trigger.
-fn site_of_case(sends: &[&Decl], case: &GroundSendCase) -> Option<Site> {
-    let send = sends.get(case.send as usize)?;
-    let place = (case.ordinal as usize).saturating_sub(1);
+fn site_of_case(sends: &[&Decl], case: &SharedSendCase) -> Option<Site> {
+    let send = sends.get(case.send() as usize)?;
+    let place = (case.ordinal() as usize).saturating_sub(1);
     match send {
         Decl::Send { cases, .. } => Some(site_of(&cases.get(place)?.trigger.name)),
         _ => None,
@@ -136,8 +136,8 @@ impl<'m> Guards<'m> {
     fn each_transition(&mut self, machine: &'m Machine<'_>) -> Result<(), NoMemory> {
         for transition in machine.all_transitions() {
             let asked = Asked {
-                rows: rows_of_guard(&transition.guard),
-                source: Some(transition.source),
+                rows: rows_of_guard(transition.guard()),
+                source: Some(transition.source()),
             };
             self.add(site_of_transition(machine, transition), asked)?;
         }
@@ -147,7 +147,7 @@ impl<'m> Guards<'m> {
     fn each_case(&mut self, machine: &'m Machine<'_>, sends: &[&Decl]) -> Result<(), NoMemory> {
         for case in machine.all_send_cases() {
             let asked = Asked {
-                rows: rows_of_guard(&case.guard),
+                rows: rows_of_guard(case.guard()),
                 source: None,
             };
             self.add(site_of_case(sends, case), asked)?;

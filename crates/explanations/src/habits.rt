@@ -2,11 +2,13 @@
 
 use crate::braces::{open_braces, tell_open};
 use crate::hints::hint_of;
+use crate::other_words::{meant_word, other_word};
 use crate::spot::{Frame, Spot, end_of};
-use crate::token_kind::{TokenKind, has_kind};
+use crate::token_kind::{TokenKind, has_kind, has_mark, has_word};
 use crate::trials::reads_past;
 use rsml_base::NoMemory;
 use rsml_syntax::{Mark, Placed, Token, Word};
+use rule_faults::tell_letters;
 use source_notes::{Notes, Piece, back, token_text};
 
 /// The reserved word at the place.
@@ -71,10 +73,11 @@ fn is_missing(
     )
 }
 
-/// Whether a kind is a word or a mark, and no bar before a semicolon, which would end a row without cells.
+/// Whether a kind is a word or a mark, no sign of a sum, and no bar before a semicolon, which would end a row without cells.
 fn may_be_missing(spot: &Spot<'_>, kind: TokenKind) -> bool {
     match kind {
         TokenKind::Name | TokenKind::Number => false,
+        TokenKind::Mark(Mark::Minus | Mark::Plus) => false,
         TokenKind::Mark(Mark::Bar) => !spot.is_mark(Mark::Semicolon),
         _ => true,
     }
@@ -143,6 +146,9 @@ fn too_much(spot: &Spot<'_>) -> Option<&'static str> {
     if spot.is_mark(Mark::Comma) {
         return Some("one `,` is too many");
     }
+    if spot.is_mark(Mark::Equal) && !spot.name_before().is_empty() {
+        return Some("one `=` is too many");
+    }
     if !spot.is_mark(Mark::Semicolon) {
         return None;
     }
@@ -186,11 +192,11 @@ fn tell_mended(
 
 /// Whether the token at the place stands outside of what the innermost brace opens.
 fn is_outside(spot: &Spot<'_>, kinds: &[TokenKind]) -> bool {
-    let in_state = has_kind(kinds, TokenKind::Word(Word::State))
-        || has_kind(kinds, TokenKind::Word(Word::Move));
+    let in_state = has_word(kinds, Word::State) || has_word(kinds, Word::Move);
     match word_at(spot) {
         Some(Word::State | Word::Array | Word::Bus | Word::Move | Word::Stay) => !in_state,
-        _ => spot.is_opening(),
+        Some(Word::On) => has_word(kinds, Word::Every),
+        _ => spot.is_opening() && !in_state,
     }
 }
 
@@ -207,7 +213,8 @@ fn braces(notes: &mut Notes<'_>, spot: &Spot<'_>, kinds: &[TokenKind]) -> Result
     if spot.is_mark(Mark::CloseBrace) && open.is_empty() {
         return notes.say(&[Piece::Words("no `{` is open here")]);
     }
-    if has_kind(kinds, TokenKind::Mark(Mark::CloseBrace)) && is_outside(spot, kinds) {
+    let is_case = spot.is_word(Word::When) && has_mark(kinds, Mark::LessEqual);
+    if is_case || has_mark(kinds, Mark::CloseBrace) && is_outside(spot, kinds) {
         let open = open.as_slice();
         return tell_open(notes, innermost(open));
     }
@@ -225,6 +232,32 @@ fn innermost(open: &[u32]) -> &[u32] {
     }
 }
 
+/// Tells what is meant by the word at the place, where it is one of another notation; whether it is told.
+fn tell_meant(
+    notes: &mut Notes<'_>,
+    spot: &Spot<'_>,
+    kinds: &[TokenKind],
+) -> Result<bool, NoMemory> {
+    if tell_letters(notes, spot.name())? {
+        return Ok(true);
+    }
+    if let Some(word) = meant_word(spot, kinds) {
+        notes.say(&[
+            Piece::Words("did you mean "),
+            Piece::Code(word.spelling()),
+            Piece::Words("?"),
+        ])?;
+        return Ok(true);
+    }
+    match other_word(spot, kinds) {
+        Some(words) => {
+            notes.say(&[Piece::Words(words)])?;
+            Ok(true)
+        }
+        None => Ok(false),
+    }
+}
+
 /// Tells what mends the fault at a place where these kinds of tokens can stand, or a hint.
 pub fn tell_habits(
     notes: &mut Notes<'_>,
@@ -232,7 +265,7 @@ pub fn tell_habits(
     frame: &Frame,
     kinds: &[TokenKind],
 ) -> Result<(), NoMemory> {
-    if !tell_mended(notes, spot, frame, kinds)? {
+    if !tell_meant(notes, spot, kinds)? && !tell_mended(notes, spot, frame, kinds)? {
         if let Some(words) = hint_of(spot, kinds) {
             notes.say(&[Piece::Words(words)])?;
         }

@@ -110,6 +110,51 @@ fn point_at_seen<'x>(
     )
 }
 
+/// The last byte of a text that is no blank.
+fn last_seen(text: &[u8]) -> Option<u8> {
+    for byte in text.iter().rev() {
+        if *byte != b' ' && *byte != b'\t' && *byte != b'\r' && *byte != b'\n' {
+            return Some(*byte);
+        }
+    }
+    None
+}
+
+/// Whether a text ends in a letter, a digit or `_`.
+fn ends_in_letter(text: &[u8]) -> bool {
+    match text.last() {
+        Some(last) => last.is_ascii_alphanumeric() || *last == b'_' || *last >= 0x80,
+        None => false,
+    }
+}
+
+/// Whether a cell or the mark before the first one ends a text.
+fn ends_in_cell(text: &[u8]) -> bool {
+    match last_seen(text) {
+        Some(last) => last == b'|' || last == b'T' || last == b'F' || last == b'.',
+        None => false,
+    }
+}
+
+/// What is meant by a character where it stands.
+fn meant(text: &[u8], at: usize, code: u32) -> Option<&'static str> {
+    let before = front(text, at);
+    let is_slash = code == 0x2F;
+    if (is_slash || code == 0x7E) && back(text, at.saturating_add(1)).starts_with(b"=") {
+        return Some("write `!=`");
+    }
+    if is_slash && last_seen(before) == Some(b'}') {
+        return Some("an event is raised by `raise NAME`; a comment begins with `#`");
+    }
+    if code == 0x2A && ends_in_cell(before) {
+        return Some("a cell that asks for nothing is `.`");
+    }
+    if code == 0x27 && ends_in_letter(before) {
+        return Some("an earlier value is written `previous NAME`; names stand without quotes");
+    }
+    instead(code)
+}
+
 /// A character that begins no token.
 fn bad_character(notes: &mut Notes<'_>, at: usize) -> Result<(), NoMemory> {
     let rest = back(notes.text(), at);
@@ -125,7 +170,7 @@ fn bad_character(notes: &mut Notes<'_>, at: usize) -> Result<(), NoMemory> {
             point_at_seen(notes, at, point.as_slice(), character)?;
         }
     }
-    match instead(code) {
+    match meant(notes.text(), at, code) {
         Some(words) => notes.say(&[Piece::Words(words)]),
         None => Ok(()),
     }

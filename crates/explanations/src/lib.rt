@@ -8,6 +8,7 @@ mod faults;
 mod habits;
 mod hints;
 mod lexical;
+mod other_words;
 mod others;
 mod ruling;
 mod spot;

@@ -2,7 +2,7 @@ use rsml_base::{NoMemory, Text};
 use rsml_rules::{Breach, first_breaches};
 use rsml_syntax::Spec;
 use rule_faults::tell_broken;
-use source_notes::Notes;
+use source_notes::{Notes, Piece};
 
 /// How many other breaches are told.
 const MOST: usize = 20;
@@ -32,7 +32,15 @@ fn first_behind(breaches: &[Breach], place: Option<u64>) -> Option<&Breach> {
     first
 }
 
-/// Tells the breaches of a specification besides the one of this rule at this name, in the order of the text.
+/// Tells a breach; whether something is told: what only follows from another one is not.
+fn tells(notes: &mut Notes<'_>, spec: &Spec, breach: &Breach) -> Result<bool, NoMemory> {
+    let before = notes.count();
+    tell_broken(notes, spec, breach.rule, &breach.name)?;
+    Ok(notes.count() > before)
+}
+
+/// Tells the breaches of a specification besides the one of this rule at this name, in the order of the text; and that there may be more,
+/// where not all are told.
 pub fn tell_others(
     notes: &mut Notes<'_>,
     spec: &Spec,
@@ -42,13 +50,19 @@ pub fn tell_others(
     let told = order_of(rule, name);
     let breaches = first_breaches(notes.alloc(), spec)?;
     let mut place = None;
-    for _ in 0..MOST {
+    let mut others: usize = 0;
+    for _ in 0..breaches.len() {
         let Some(breach) = first_behind(breaches.as_slice(), place) else {
             return Ok(());
         };
+        if others == MOST {
+            return notes.say(&[Piece::Words(
+                "more may be wrong than this: mend what is told first",
+            )]);
+        }
         let order = order_of(breach.rule, &breach.name);
-        if order != told {
-            tell_broken(notes, spec, breach.rule, &breach.name)?;
+        if order != told && tells(notes, spec, breach)? {
+            others = others.saturating_add(1);
         }
         place = Some(order);
     }

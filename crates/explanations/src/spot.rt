@@ -29,15 +29,41 @@ impl<'t> Spot<'t> {
         self.tokens.get(self.place.checked_add(1)?)
     }
 
+    /// The token that stands so many places behind it.
+    pub fn further(&self, count: usize) -> Option<&'t Placed> {
+        self.tokens.get(self.place.checked_add(count)?)
+    }
+
+    /// The token that stands so many places before it.
+    pub fn earlier(&self, count: usize) -> Option<&'t Placed> {
+        self.tokens.get(self.place.checked_sub(count)?)
+    }
+
+    /// The name at the place; nothing where there is none.
+    pub fn name(&self) -> &'t [u8] {
+        name_of(self.text, self.token())
+    }
+
+    /// The name before it; nothing where there is none.
+    pub fn name_before(&self) -> &'t [u8] {
+        name_of(self.text, self.before())
+    }
+
     pub fn is_mark(&self, mark: Mark) -> bool {
         has_mark(self.token(), mark)
     }
 
     pub fn is_word(&self, word: Word) -> bool {
-        match self.token() {
-            Some(placed) => TokenKind::of(&placed.token) == TokenKind::Word(word),
-            None => false,
-        }
+        has_kind(self.token(), TokenKind::Word(word))
+    }
+
+    pub fn follows_word(&self, word: Word) -> bool {
+        has_kind(self.before(), TokenKind::Word(word))
+    }
+
+    /// Whether the token is followed by a name.
+    pub fn precedes_name(&self) -> bool {
+        has_kind(self.after(), TokenKind::Name)
     }
 
     /// Whether the token opens a declaration or a state.
@@ -57,6 +83,22 @@ impl<'t> Spot<'t> {
 
     pub fn precedes_mark(&self, mark: Mark) -> bool {
         has_mark(self.after(), mark)
+    }
+
+    /// Whether the name before it is that of a macro.
+    pub fn follows_macro(&self) -> bool {
+        let name = self.name_before();
+        if name.is_empty() {
+            return false;
+        }
+        for (word, named) in self.tokens.iter().zip(self.tokens.iter().skip(1)) {
+            if TokenKind::of(&word.token) == TokenKind::Word(Word::Macro)
+                && token_text(self.text, named.at as usize) == name
+            {
+                return true;
+            }
+        }
+        false
     }
 
     /// The offset behind the token before it.
@@ -149,9 +191,24 @@ pub fn end_of(text: &[u8], placed: &Placed) -> usize {
     at.saturating_add(token_text(text, at).len())
 }
 
-fn has_mark(token: Option<&Placed>, mark: Mark) -> bool {
+/// Whether a token is of a kind.
+pub fn has_kind(token: Option<&Placed>, kind: TokenKind) -> bool {
     match token {
-        Some(placed) => TokenKind::of(&placed.token) == TokenKind::Mark(mark),
+        Some(placed) => TokenKind::of(&placed.token) == kind,
         None => false,
+    }
+}
+
+fn has_mark(token: Option<&Placed>, mark: Mark) -> bool {
+    has_kind(token, TokenKind::Mark(mark))
+}
+
+/// A token that is a name; nothing where it is none.
+fn name_of<'t>(text: &'t [u8], token: Option<&Placed>) -> &'t [u8] {
+    match token {
+        Some(placed) if TokenKind::of(&placed.token) == TokenKind::Name => {
+            token_text(text, placed.at as usize)
+        }
+        _ => &[],
     }
 }

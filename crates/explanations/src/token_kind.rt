@@ -51,3 +51,13 @@ pub fn all_kinds(alloc: Global) -> Result<Vec<TokenKind>, NoMemory> {
 pub fn has_kind(kinds: &[TokenKind], kind: TokenKind) -> bool {
     kinds.iter().any(|other| *other == kind)
 }
+
+/// Whether a mark is among these.
+pub fn has_mark(kinds: &[TokenKind], mark: Mark) -> bool {
+    has_kind(kinds, TokenKind::Mark(mark))
+}
+
+/// Whether a reserved word is among these.
+pub fn has_word(kinds: &[TokenKind], word: Word) -> bool {
+    has_kind(kinds, TokenKind::Word(word))
+}

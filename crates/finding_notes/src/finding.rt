@@ -3,7 +3,7 @@
 use crate::drawing::tell_member;
 use crate::heads::tell_head;
 use crate::holdings::tell_world;
-use crate::mending::tell_mends;
+use crate::mending::{Doubled, tell_mends};
 use crate::ranks::{MOST_ROWS, nearest};
 use crate::reads::reads_of;
 use crate::truths::truths_in;
@@ -14,7 +14,7 @@ use guard_encode::Encoder;
 use rsml_base::NoMemory;
 use rsml_syntax::World;
 use source_notes::{Notes, Piece};
-use written_members::{Scene, members};
+use written_members::Scene;
 
 /// How many members of a group are drawn at most.
 const MOST_DRAWN: usize = 8;
@@ -46,15 +46,14 @@ fn tell_members(
     tell_rest(notes, shown.len())
 }
 
-/// Tells what the members of a group read of a world.
+/// Tells what the condition and the members of a group read of a world.
 fn tell_read(
     notes: &mut Notes<'_>,
     scene: &Scene<'_, '_>,
     group: u32,
     world: &World,
 ) -> Result<(), NoMemory> {
-    let members = members(notes.alloc(), scene.machine, group)?;
-    let reads = reads_of(notes.alloc(), scene.machine, members.as_slice())?;
+    let reads = reads_of(notes.alloc(), scene.machine, group)?;
     tell_world(notes, scene, &reads, world)
 }
 
@@ -77,37 +76,37 @@ fn tell_mended(
     notes: &mut Notes<'_>,
     scene: &Scene<'_, '_>,
     encoder: &mut Encoder<'_, '_>,
-    group: u32,
+    doubled: Doubled<'_>,
     shown: &[Member],
-    truths: &Truths,
 ) -> Result<(), NoMemory> {
     match shown {
-        [one, two] => tell_mends(notes, scene, encoder, group, truths, *one, *two),
+        [one, two] => tell_mends(notes, scene, encoder, doubled, *one, *two),
         _ => Ok(()),
     }
 }
 
-/// Tells which members of a group are enabled in a world of these truths.
+/// Tells which members of a group are enabled in a world.
 fn tell_double(
     notes: &mut Notes<'_>,
     scene: &Scene<'_, '_>,
     encoder: &mut Encoder<'_, '_>,
-    group: u32,
+    doubled: Doubled<'_>,
     world: &World,
-    truths: &Truths,
 ) -> Result<(), NoMemory> {
+    let Doubled { group, truths, .. } = doubled;
     let shown = nearest(notes.alloc(), scene.machine, truths, group, 0)?;
     tell_head(notes, scene, group, shown.len(), shown.as_slice())?;
     tell_read(notes, scene, group, world)?;
     tell_members(notes, scene, shown.as_slice(), truths)?;
-    tell_mended(notes, scene, encoder, group, shown.as_slice(), truths)
+    tell_mended(notes, scene, encoder, doubled, shown.as_slice())
 }
 
-/// Tells what is found of a group, nothing where it is sound.
+/// Tells what is found of a group, one of these verdicts, nothing where it is sound.
 pub fn tell_finding(
     notes: &mut Notes<'_>,
     scene: &Scene<'_, '_>,
     encoder: &mut Encoder<'_, '_>,
+    verdicts: &[Verdict],
     group: u32,
     verdict: &Verdict,
 ) -> Result<(), NoMemory> {
@@ -118,7 +117,14 @@ pub fn tell_finding(
             None => Ok(()),
         },
         Verdict::Double(world) => match truths_in(notes.alloc(), scene.machine, world)? {
-            Some(truths) => tell_double(notes, scene, encoder, group, world, &truths),
+            Some(truths) => {
+                let doubled = Doubled {
+                    group,
+                    truths: &truths,
+                    verdicts,
+                };
+                tell_double(notes, scene, encoder, doubled, world)
+            }
             None => Ok(()),
         },
     }

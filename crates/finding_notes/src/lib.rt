@@ -10,6 +10,7 @@ mod holdings;
 mod mending;
 mod ranks;
 mod reads;
+mod sharing;
 mod telling;
 mod truths;
 

@@ -3,11 +3,13 @@
 use crate::columns::holding;
 use crate::drawing::{letter, text_at};
 use crate::ranks::MOST_ROWS;
+use crate::sharing::{Standing, beside, standing_in_sound};
 use crate::truths::is_true;
 use and_or_tables::{GroundRow, GroundTable, Truths};
 use elaborate::Machine;
+use finding_texts::Verdict;
 use ground_groups::Member;
-use group_mends::{Added, Change, is_among, is_sound_with};
+use group_mends::{Added, Change, columns_stay, is_among, is_sound_with};
 use guard_encode::Encoder;
 use rsml_base::NoMemory;
 use rsml_ground::GroundGuard;
@@ -15,6 +17,17 @@ use rsml_syntax::Cell;
 use source_notes::Notes;
 use text_writer::{Draft, Writer};
 use written_members::{Scene, guard_of, members, phrases, width, written_at};
+
+/// How many other groups are asked at most whether they stay sound with a row.
+const MOST_OTHERS: usize = 64;
+
+/// A group in which two members are enabled where phrases have these truths, and what is found of all groups.
+#[derive(Clone, Copy)]
+pub struct Doubled<'d> {
+    pub group: u32,
+    pub truths: &'d Truths,
+    pub verdicts: &'d [Verdict],
+}
 
 /// A member that is enabled, its table, and the columns that hold.
 #[derive(Drop)]
@@ -59,6 +72,137 @@ fn against(truth: bool) -> Cell {
     if truth { Cell::F } else { Cell::T }
 }
 
+/// The row with the phrase of another that fails in the columns of a member that hold.
+fn added_from<'e>(row: &GroundRow, truths: &Truths, to: &'e Enabled<'_>) -> Added<'e> {
+    Added {
+        phrase: row.phrase,
+        cell: against(is_true(truths, row.phrase)),
+        columns: to.columns.as_slice(),
+    }
+}
+
+/// The phrase of the row at a place of the table of a member.
+fn phrase_at(machine: &Machine<'_>, member: Member, place: usize) -> Option<u32> {
+    match guard_of(machine, member)? {
+        GroundGuard::Always => None,
+        GroundGuard::Table(table) => {
+            let row = table.rows.get(place)?;
+            Some(row.phrase)
+        }
+    }
+}
+
+/// Whether another group stays sound, where the row at a place of one member is added to a member that stands there.
+fn stays(
+    notes: &Notes<'_>,
+    encoder: &mut Encoder<'_, '_>,
+    standing: Standing,
+    from: Member,
+    place: usize,
+    added: Added<'_>,
+) -> Result<bool, NoMemory> {
+    let machine = encoder.machine();
+    let Some(beside) = beside(machine, standing.member, from) else {
+        return Ok(false);
+    };
+    let Some(phrase) = phrase_at(machine, beside, place) else {
+        return Ok(false);
+    };
+    let change = Change {
+        member: standing.member,
+        added: Added {
+            phrase,
+            cell: added.cell,
+            columns: added.columns,
+        },
+    };
+    let members = members(notes.alloc(), machine, standing.group)?;
+    is_sound_with(
+        notes.alloc(),
+        encoder,
+        standing.group,
+        members.as_slice(),
+        change,
+    )
+}
+
+/// Whether all these groups stay sound, where the row at a place of one member is added. False, where they are too many.
+fn all_stay(
+    notes: &Notes<'_>,
+    encoder: &mut Encoder<'_, '_>,
+    others: &[Standing],
+    from: Member,
+    place: usize,
+    added: Added<'_>,
+) -> Result<bool, NoMemory> {
+    if others.len() > MOST_OTHERS {
+        return Ok(false);
+    }
+    for other in others {
+        if !stays(notes, encoder, *other, from, place, added)? {
+            return Ok(false);
+        }
+    }
+    Ok(true)
+}
+
+/// Whether a group is sound after a change that leaves no column without a world.
+fn mends(
+    notes: &Notes<'_>,
+    encoder: &mut Encoder<'_, '_>,
+    group: u32,
+    change: Change<'_>,
+) -> Result<bool, NoMemory> {
+    let members = members(notes.alloc(), encoder.machine(), group)?;
+    if !is_sound_with(notes.alloc(), encoder, group, members.as_slice(), change)? {
+        return Ok(false);
+    }
+    columns_stay(notes.alloc(), encoder, group, change)
+}
+
+/// Whether the row at a place of one member, added to the table of the other, mends a group and leaves the others sound.
+fn is_mend(
+    notes: &Notes<'_>,
+    scene: &Scene<'_, '_>,
+    encoder: &mut Encoder<'_, '_>,
+    doubled: Doubled<'_>,
+    from: Member,
+    place: usize,
+    change: Change<'_>,
+) -> Result<bool, NoMemory> {
+    if !mends(notes, encoder, doubled.group, change)? {
+        return Ok(false);
+    }
+    let others = standing_in_sound(notes.alloc(), scene, doubled.verdicts, change.member)?;
+    all_stay(notes, encoder, others.as_slice(), from, place, change.added)
+}
+
+/// The place of the first row of one member whose phrase, added to the table of the other, mends a group.
+fn mending_row(
+    notes: &Notes<'_>,
+    scene: &Scene<'_, '_>,
+    encoder: &mut Encoder<'_, '_>,
+    doubled: Doubled<'_>,
+    from: &Enabled<'_>,
+    to: &Enabled<'_>,
+) -> Result<Option<usize>, NoMemory> {
+    if to.table.rows.len() >= MOST_ROWS {
+        return Ok(None);
+    }
+    for (place, row) in from.table.rows.as_slice().iter().enumerate() {
+        if is_asked(row, from.columns.as_slice()) {
+            let change = Change {
+                member: to.member,
+                added: added_from(row, doubled.truths, to),
+            };
+            if is_mend(notes, scene, encoder, doubled, from.member, place, change)? {
+                return Ok(Some(place));
+            }
+        }
+    }
+    Ok(None)
+}
+
 /// The cells of a row that is added to a table of so many columns.
 fn put_added(line: &mut Draft, added: Added<'_>, width: usize) {
     for place in 0..width {
@@ -72,15 +216,18 @@ fn put_added(line: &mut Draft, added: Added<'_>, width: usize) {
 }
 
 /// Tells that a row of this phrase, added to a table, mends a group.
-fn tell_mend(
+fn tell_row(
     notes: &mut Notes<'_>,
     scene: &Scene<'_, '_>,
+    lead: &[u8],
     phrase: &[u8],
     added: Added<'_>,
     to: &Enabled<'_>,
 ) -> Result<(), NoMemory> {
     let mut line = Draft::new(notes.alloc());
-    line.put(b"  the row `");
+    line.put(b"  ");
+    line.put(lead);
+    line.put(b"the row `");
     line.put(phrase);
     line.put(b" |");
     put_added(&mut line, added, width(to.table));
@@ -92,55 +239,16 @@ fn tell_mend(
     notes.add(line.finish()?.as_slice())
 }
 
-/// The place of the first row of one member whose phrase, added to the table of the other, mends a group.
-fn mending_row(
-    notes: &Notes<'_>,
-    encoder: &mut Encoder<'_, '_>,
-    group: u32,
-    truths: &Truths,
-    from: &Enabled<'_>,
-    to: &Enabled<'_>,
-) -> Result<Option<usize>, NoMemory> {
-    if to.table.rows.len() >= MOST_ROWS {
-        return Ok(None);
-    }
-    let members = members(notes.alloc(), encoder.machine(), group)?;
-    for (place, row) in from.table.rows.as_slice().iter().enumerate() {
-        if is_asked(row, from.columns.as_slice()) {
-            let change = Change {
-                member: to.member,
-                added: added_from(row, truths, to),
-            };
-            if is_sound_with(notes.alloc(), encoder, group, members.as_slice(), change)? {
-                return Ok(Some(place));
-            }
-        }
-    }
-    Ok(None)
-}
-
-/// The row with the phrase of another that fails in the columns of a member that hold.
-fn added_from<'e>(row: &GroundRow, truths: &Truths, to: &'e Enabled<'_>) -> Added<'e> {
-    Added {
-        phrase: row.phrase,
-        cell: against(is_true(truths, row.phrase)),
-        columns: to.columns.as_slice(),
-    }
-}
-
-/// Tells a row with a phrase of one member that mends a group in the table of the other, if there is one.
-fn mend(
+/// Tells that the row at a place of one member, added to the table of the other, mends a group.
+fn tell_mend(
     notes: &mut Notes<'_>,
     scene: &Scene<'_, '_>,
-    encoder: &mut Encoder<'_, '_>,
-    group: u32,
     truths: &Truths,
+    lead: &[u8],
+    place: usize,
     from: &Enabled<'_>,
     to: &Enabled<'_>,
 ) -> Result<(), NoMemory> {
-    let Some(place) = mending_row(notes, encoder, group, truths, from, to)? else {
-        return Ok(());
-    };
     let Some(row) = from.table.rows.get(place) else {
         return Ok(());
     };
@@ -149,7 +257,42 @@ fn mend(
     };
     let phrases = phrases(notes.alloc(), scene.source.plain(), at.table)?;
     let phrase = text_at(phrases.as_slice(), place);
-    tell_mend(notes, scene, phrase, added_from(row, truths, to), to)
+    tell_row(notes, scene, lead, phrase, added_from(row, truths, to), to)
+}
+
+/// Tells the rows that mend a group: of the one member in the table of the other, and of the other in the table of the one.
+fn tell_found(
+    notes: &mut Notes<'_>,
+    scene: &Scene<'_, '_>,
+    truths: &Truths,
+    one: &Enabled<'_>,
+    two: &Enabled<'_>,
+    first: Option<usize>,
+    second: Option<usize>,
+) -> Result<(), NoMemory> {
+    match (first, second) {
+        (Some(first), Some(second)) => {
+            tell_mend(notes, scene, truths, b"either ", first, one, two)?;
+            tell_mend(notes, scene, truths, b"or ", second, two, one)
+        }
+        (Some(first), None) => tell_mend(notes, scene, truths, b"", first, one, two),
+        (None, Some(second)) => tell_mend(notes, scene, truths, b"", second, two, one),
+        (None, None) => Ok(()),
+    }
+}
+
+/// Tells rows that mend a group in which these two members are enabled.
+fn tell_between(
+    notes: &mut Notes<'_>,
+    scene: &Scene<'_, '_>,
+    encoder: &mut Encoder<'_, '_>,
+    doubled: Doubled<'_>,
+    one: &Enabled<'_>,
+    two: &Enabled<'_>,
+) -> Result<(), NoMemory> {
+    let first = mending_row(notes, scene, encoder, doubled, one, two)?;
+    let second = mending_row(notes, scene, encoder, doubled, two, one)?;
+    tell_found(notes, scene, doubled.truths, one, two, first, second)
 }
 
 /// The component of a member, if it is a transition.
@@ -157,7 +300,7 @@ fn component_of(machine: &Machine<'_>, member: Member) -> Option<u32> {
     match member {
         Member::Transition(number) => {
             let transition = machine.all_transitions().get(number as usize)?;
-            Some(transition.component)
+            Some(transition.component())
         }
         Member::SendCase(_) => None,
         Member::FunctionCase { .. } => None,
@@ -169,8 +312,7 @@ pub fn tell_mends(
     notes: &mut Notes<'_>,
     scene: &Scene<'_, '_>,
     encoder: &mut Encoder<'_, '_>,
-    group: u32,
-    truths: &Truths,
+    doubled: Doubled<'_>,
     one: Member,
     two: Member,
 ) -> Result<(), NoMemory> {
@@ -178,12 +320,11 @@ pub fn tell_mends(
     if component_of(machine, one) != component_of(machine, two) {
         return Ok(());
     }
-    let Some(one) = enabled_table(notes, machine, one, truths)? else {
+    let Some(one) = enabled_table(notes, machine, one, doubled.truths)? else {
         return Ok(());
     };
-    let Some(two) = enabled_table(notes, machine, two, truths)? else {
+    let Some(two) = enabled_table(notes, machine, two, doubled.truths)? else {
         return Ok(());
     };
-    mend(notes, scene, encoder, group, truths, &one, &two)?;
-    mend(notes, scene, encoder, group, truths, &two, &one)
+    tell_between(notes, scene, encoder, doubled, &one, &two)
 }

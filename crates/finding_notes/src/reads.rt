@@ -1,13 +1,13 @@
-//! What members read of a world: components, cells and phrases, also those behind macros, functions and quantifiers.
+//! What a group reads of a world: components, cells and phrases, also those behind macros, functions and quantifiers.
 
 use and_or_tables::GroundTable;
 use elaborate::Machine;
-use ground_groups::Member;
+use ground_groups::{GroupKind, Member};
 use rsml_base::NoMemory;
 use rsml_ground::{Definition, GroundCase, GroundGuard, GroundOperand, GroundPhrase, GroundSum};
 use state_tree::Tree;
 use std::alloc::Global;
-use written_members::{definition_of, guard_of};
+use written_members::{definition_of, guard_of, members};
 
 /// How many states stand around one another at most.
 const MOST_DEPTH: u32 = 16;
@@ -164,28 +164,39 @@ fn read_all_named(reads: &mut Reads, machine: &Machine<'_>) {
     }
 }
 
-/// Reads the source of a member, if it is a transition.
-fn read_source(reads: &mut Reads, machine: &Machine<'_>, member: Member) {
-    if let Member::Transition(number) = member
-        && let Some(transition) = machine.all_transitions().get(number as usize)
-    {
-        read_state(reads, machine.tree(), transition.source);
+/// Reads whether states are active.
+fn read_states(reads: &mut Reads, tree: &Tree<'_>, states: &[u32]) {
+    for state in states {
+        read_state(reads, tree, *state);
     }
 }
 
-/// What members read.
-pub fn reads_of(
-    alloc: Global,
-    machine: &Machine<'_>,
-    members: &[Member],
-) -> Result<Reads, NoMemory> {
-    let mut reads = Reads::new(alloc, machine)?;
+/// Reads the condition of a group: whether its state is active, and the states inside it that have a group on its event.
+fn read_condition(reads: &mut Reads, machine: &Machine<'_>, group: u32) {
+    let groups = machine.groups();
+    if group < groups.count()
+        && let GroupKind::State { state, .. } = groups.kind(group)
+    {
+        read_state(reads, machine.tree(), state);
+        read_states(reads, machine.tree(), groups.below(group));
+    }
+}
+
+/// Reads the guards of members.
+fn read_guards(reads: &mut Reads, machine: &Machine<'_>, members: &[Member]) {
     for member in members {
-        read_source(&mut reads, machine, *member);
         if let Some(guard) = guard_of(machine, *member) {
-            read_guard(&mut reads, guard);
+            read_guard(reads, guard);
         }
     }
+}
+
+/// What the condition and the members of a group read.
+pub fn reads_of(alloc: Global, machine: &Machine<'_>, group: u32) -> Result<Reads, NoMemory> {
+    let members = members(alloc, machine, group)?;
+    let mut reads = Reads::new(alloc, machine)?;
+    read_condition(&mut reads, machine, group);
+    read_guards(&mut reads, machine, members.as_slice());
     read_all_named(&mut reads, machine);
     Ok(reads)
 }

@@ -38,7 +38,7 @@ fn tell_findings(
     let mut encoder = Encoder::new(notes.alloc(), scene.machine)?;
     let mut group: u32 = 0;
     for verdict in verdicts {
-        tell_finding(notes, scene, &mut encoder, group, verdict)?;
+        tell_finding(notes, scene, &mut encoder, verdicts, group, verdict)?;
         group = group.saturating_add(1);
     }
     Ok(())

@@ -24,7 +24,7 @@ fn is_active(machine: &Machine<'_>, world: &World, transition: u32) -> bool
         → result ≡ ground.is_active machine.now.base.spec world.now x.source }
 {
     machine.law();
-    let source = machine.transition(transition).source;
+    let source = machine.transition(transition).source();
     machine.tree().active(world.choices.as_slice(), source)
 }
 

@@ -40,7 +40,7 @@ fn put_member<W: Writer>(writer: &mut W, machine: &Machine<'_>, member: Member)
         Member::Transition(number) => {
             put_label(writer, machine.tree(), machine.transition(number));
         }
-        Member::SendCase(number) => put_case_label(writer, machine.send_case(number).ordinal),
+        Member::SendCase(number) => put_case_label(writer, machine.send_case(number).ordinal()),
         Member::FunctionCase { place, .. } => put_case_at(writer, place),
     }
 }

@@ -126,7 +126,7 @@ fn added_cell(
 
 /// Where a column of a table and the cell of an added row hold.
 #[tactic(auto, using(crate::proofs::Keeping::no_calls, crate::proofs::Keeping::two_calls))]
-fn whole_column(
+pub fn whole_column(
     alloc: Global,
     encoder: &mut Encoder<'_, '_>,
     rows: &[GroundRow],

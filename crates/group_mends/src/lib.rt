@@ -5,4 +5,4 @@ mod diagrams;
 mod soundness;
 
 pub use diagrams::{Added, is_among};
-pub use soundness::{Change, is_sound_with};
+pub use soundness::{Change, columns_stay, is_sound_with};

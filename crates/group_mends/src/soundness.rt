@@ -1,14 +1,16 @@
-//! Whether a group would be sound with a row more in the table of a member.
+//! Whether a group would be sound with a row more in the table of a member, and which columns would still be true.
 ghost use Rattle.std.specs.Prelude.{◌<◌, IfOk, length};
 ghost use Rattle.bdd_core.specs.Diagram.{IsRef};
 ghost use Rattle.rsml_meaning.specs.Groups.{groups};
 ghost use Rattle.guard_encode.specs.Encoding.{Keeps};
 
-use crate::diagrams::{Added, guard};
+use crate::diagrams::{Added, guard, whole_column};
+use and_or_tables::GroundRow;
 use bdd_core::Ref;
 use ground_groups::Member;
 use guard_encode::Encoder;
 use rsml_base::NoMemory;
+use rsml_ground::GroundGuard;
 use std::alloc::Global;
 use written_members::guard_of;
 
@@ -133,6 +135,18 @@ fn is_one(
     exclude(alloc, encoder, condition, none)
 }
 
+/// Where the condition of a group holds: nowhere, where there is no such group.
+#[tactic(auto, using(crate::proofs::Keeping::no_calls, crate::proofs::Keeping::two_calls))]
+fn condition(encoder: &mut Encoder<'_, '_>, group: u32) -> Result<Ref, NoMemory>
+    ensures keeps { Keeps encoder.old encoder.new }
+    ensures is_ref { IfOk result (IsRef encoder.new.diagram) }
+{
+    if group >= encoder.machine().groups().count() {
+        return Ok(encoder.constant(false));
+    }
+    encoder.condition(group)
+}
+
 /// Whether a group of these members would be sound after a change.
 #[tactic(auto, using(crate::proofs::Keeping::no_calls, crate::proofs::Keeping::two_calls))]
 pub fn is_sound_with(
@@ -144,10 +158,64 @@ pub fn is_sound_with(
 ) -> Result<bool, NoMemory>
     ensures keeps { Keeps encoder.old encoder.new }
 {
-    if group >= encoder.machine().groups().count() {
-        return Ok(false);
-    }
     let counted = count_enabled(alloc, encoder, members, change)?;
-    let condition = encoder.condition(group)?;
+    let condition = condition(encoder, group)?;
     is_one(alloc, encoder, condition, counted)
+}
+
+/// Whether a column, from 1, of these rows and an added row is true somewhere in a group.
+#[tactic(auto, using(crate::proofs::Keeping::no_calls, crate::proofs::Keeping::two_calls))]
+fn column_stays(
+    alloc: Global,
+    encoder: &mut Encoder<'_, '_>,
+    group: u32,
+    rows: &[GroundRow],
+    added: Added<'_>,
+    number: usize,
+) -> Result<bool, NoMemory>
+    ensures keeps { Keeps encoder.old encoder.new }
+{
+    let told = whole_column(alloc, encoder, rows, Some(added), number.saturating_sub(1))?;
+    let condition = condition(encoder, group)?;
+    let none = exclude(alloc, encoder, condition, told)?;
+    Ok(!none)
+}
+
+/// Whether each of some columns of a table stays true somewhere in a group, with a row that is added to them.
+#[tactic(auto, using(crate::proofs::Keeping::no_calls, crate::proofs::Keeping::two_calls))]
+fn columns_of_table_stay(
+    alloc: Global,
+    encoder: &mut Encoder<'_, '_>,
+    group: u32,
+    rows: &[GroundRow],
+    added: Added<'_>,
+) -> Result<bool, NoMemory>
+    ensures keeps { Keeps encoder.old encoder.new }
+{
+    let mut stay = true;
+    for number in added.columns {
+        if !column_stays(alloc, encoder, group, rows, added, *number)? {
+            stay = false;
+        }
+    }
+    Ok(stay)
+}
+
+/// Whether each column that a change reaches would be true in some world in which the condition of the group holds.
+#[tactic(auto, using(crate::proofs::Keeping::no_calls, crate::proofs::Keeping::two_calls))]
+pub fn columns_stay(
+    alloc: Global,
+    encoder: &mut Encoder<'_, '_>,
+    group: u32,
+    change: Change<'_>,
+) -> Result<bool, NoMemory>
+    ensures keeps { Keeps encoder.old encoder.new }
+{
+    let machine = encoder.machine();
+    match guard_of(machine, change.member) {
+        Some(GroundGuard::Table(table)) => {
+            columns_of_table_stay(alloc, encoder, group, table.rows.as_slice(), change.added)
+        }
+        _ => Ok(false),
+    }
 }

@@ -1,5 +1,5 @@
 -- What a simulation starts with, and what it leaves, from what its steps answered.
-use Rattle.std.proofs.Common.{◌≡◌, ◌≢◌, ℕ, Vec, length, refl, sym, ap, subst, arith}
+use Rattle.std.proofs.Common.{◌≡◌, ◌≢◌, ℕ, ◌≤◌, List, Vec, length, refl, sym, ap, subst, arith}
 use Rattle.std.proofs.lemmas.List.{length-map}
 use Rattle.std.specs.Prelude.{IfSome}
 use Rattle.std.specs.declared.alloc.Global.{Global}
@@ -9,6 +9,8 @@ use Rattle.rsml_meaning.specs.EventFiles.{Limits, program_limits}
 use Rattle.rsml_syntax.specs.declared.edition.Edition.TheVariants as edition
 use Rattle.rsml_syntax.specs.declared.syntax.Spec.{Spec}
 use Rattle.rsml_syntax.specs.declared.token.Placed.{Placed}
+use Rattle.rsml_syntax.specs.grammar.Places.{IsTokensOf}
+use Rattle.rsml_syntax.specs.text.Lexing.{bare}
 use Rattle.rsml_syntax.proofs.ScanLemmas.{lexes_tokens}
 use Rattle.simulator.specs.Simulating as simulation
 use Rattle.simulator.specs.declared.sim_end.SimEnd.{SimEnd}
@@ -58,6 +60,13 @@ start_is_certified text x s e h = subst (λ (y : Start). Starts text y) e h
 pub start_is_stopped : (text : Bytes) (x : Start) (o : Outcome) → x ≡ start.Stopped o → Starts text x
     → (o.status ≢ status.Done) × IsOfText o.status × CheckOutput text o.status o.text.items
 start_is_stopped text x o e h = subst (λ (y : Start). Starts text y) e h
+
+-- a specification of few tokens is short
+pub short_tokens : (ts : List Placed) (s : Spec) → length ts ≤ 1048576 → IsTokensOf (bare ts) s → IsShort s
+short_tokens ts s few t =
+    let same = ap length t.tokens in
+    let many = length-map ts (λ (p : Placed). p.token) in
+    omega (arith, few, same, many)
 
 -- a text of which a specification is read is short
 pub short_text : (text : Bytes) (s : Spec) → IsTextOf text s → IsShort s

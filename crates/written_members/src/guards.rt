@@ -26,11 +26,11 @@ pub fn guard_of<'m>(machine: &'m Machine<'_>, member: Member) -> Option<&'m Grou
     match member {
         Member::Transition(number) => {
             let transition = machine.all_transitions().get(number as usize)?;
-            Some(&transition.guard)
+            Some(transition.guard())
         }
         Member::SendCase(number) => {
             let case = machine.all_send_cases().get(number as usize)?;
-            Some(&case.guard)
+            Some(case.guard())
         }
         Member::FunctionCase { function, place } => match definition_of(machine, function)? {
             Definition::Macro(_) => None,

@@ -30,7 +30,7 @@ fn put_transition(line: &mut Draft, machine: &Machine<'_>, number: u32) {
 /// Puts the label of a case of a send.
 fn put_send_case(line: &mut Draft, machine: &Machine<'_>, number: u32) {
     match machine.all_send_cases().get(number as usize) {
-        Some(case) => put_case_label(line, case.ordinal),
+        Some(case) => put_case_label(line, case.ordinal()),
         None => {}
     }
 }

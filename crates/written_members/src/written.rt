@@ -17,9 +17,9 @@ pub struct Written {
 /// The transition of a number, as it is written.
 fn transition<'a>(machine: &Machine<'a>, number: u32) -> Option<&'a Transition> {
     let ground = machine.all_transitions().get(number as usize)?;
-    let component = machine.tree().parent(ground.source)?;
+    let component = machine.tree().parent(ground.source())?;
     let body = machine.tree().states().body(component)?;
-    transitions_of(body).get((ground.ordinal as usize).saturating_sub(1))
+    transitions_of(body).get((ground.ordinal() as usize).saturating_sub(1))
 }
 
 /// The cases of the send instance of a number.
@@ -62,8 +62,8 @@ fn definition<'a>(globals: &Globals<'_>, decls: &'a [Decl], number: u32) -> Opti
 /// The case of a send of a number, as it is written.
 fn send_case<'a>(scene: &Scene<'_, 'a>, number: u32) -> Option<&'a SendCase> {
     let ground = scene.machine.all_send_cases().get(number as usize)?;
-    let cases = send(scene.globals, scene.decls, ground.send)?;
-    cases.get((ground.ordinal as usize).saturating_sub(1))
+    let cases = send(scene.globals, scene.decls, ground.send())?;
+    cases.get((ground.ordinal() as usize).saturating_sub(1))
 }
 
 /// What begins with the word before this name.

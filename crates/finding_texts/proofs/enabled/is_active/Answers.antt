@@ -17,13 +17,15 @@ active-requires-clause-choices c =
 
 pub active-requires-clause-node : goal.active-requires-clause-node
 active-requires-clause-node c =
-    subst (λ (t : Spec). c.transition.result.now.source < length (states t)) (sym c.tree.ensures)
-    (source_below c.args.machine.now c.law.ensures c.args.transition c.transition.result.now c.transition.ensures)
+    subst (λ (t : Spec). c.source-source.result < length (states t)) (sym c.tree.ensures)
+    (subst (λ n. n < length (states c.args.machine.now.base.spec)) (sym c.source-source.ensures)
+    (source_below c.args.machine.now c.law.ensures c.args.transition c.transition.result.now c.transition.ensures))
 
 pub returns : goal.returns
 returns c = λ x at.
     let s = c.args.machine.now.base.spec in
     let w = c.args.world.now in
     c.active.ensures w (sym c.as_slice.ensures)
-    ∙ ap (λ (t : Spec). active t w (path_of t c.transition.result.now.source)) c.tree.ensures
+    ∙ ap (λ (t : Spec). active t w (path_of t c.source-source.result)) c.tree.ensures
+    ∙ ap (is_active s w) c.source-source.ensures
     ∙ ap (λ (y : GroundTransition). is_active s w y.source) (same_Some c.transition.result.now x (sym c.transition.ensures ∙ at))

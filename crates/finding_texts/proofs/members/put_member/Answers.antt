@@ -39,7 +39,7 @@ returns-in-SendCase g c = λ x is.
     let k = c.in-SendCase.number in
     let written = λ (t : Text). Writes (g.W.Writer.state c.args.writer.now) (g.W.Writer.text c.args.writer.now) t (g.W.Writer.state c.put_case_label.new.writer) (g.W.Writer.text c.put_case_label.new.writer) in
     of_send_case written m.base.spec k
-    (λ t at. alike (ap (λ (n : ℕ). case_label n) (send_case_ordinal m c.law.ensures k t c.send_case.result.now at c.send_case.ensures)) c.put_case_label.ensures)
+    (λ t at. alike (ap (λ (n : ℕ). case_label n) (c.ordinal.ensures ∙ send_case_ordinal m c.law.ensures k t c.send_case.result.now at c.send_case.ensures)) c.put_case_label.ensures)
     x (subst (λ (y : Member). MemberIs m.base.spec x y) c.in-SendCase.is is)
 
 pub returns-in-FunctionCase : goal.returns-in-FunctionCase

@@ -1,4 +1,5 @@
 use Rattle.std.proofs.Common.{Err, ap, ◌∙◌}
+use Rattle.rsml.proofs.StartLemmas.{short_tokens}
 use Rattle.rsml.proofs.TextLemmas.{none_read}
 use Rattle.rsml.proofs.texts.read_tokens.Goals as goal
 
@@ -6,3 +7,6 @@ pub returns-in_ok-parse_fault-in-Err-clause-read : goal.returns-in_ok-parse_faul
 returns-in_ok-parse_fault-in-Err-clause-read c =
     none_read _ _ _ (λ place e. c.parse.ensures.syntax place (c.in-Err.is ∙ ap Err e)) (λ place e. c.parse.ensures.deep place (c.in-Err.is ∙ ap Err e))
     c.in_ok-parse_fault-in-Err.ensures
+
+pub returns-in-Ok-clause-short : goal.returns-in-Ok-clause-short
+returns-in-Ok-clause-short c = short_tokens c.args.tokens.now c.in-Ok.spec c.requires.few c.in-Ok.ensures.ok
