@@ -1,3 +1,4 @@
+use crate::session::{BROKEN, LAMP, REFUSED, UNREAD};
 use rsml::{Judgement, judge};
 use std::test::Fail;
 
@@ -13,28 +14,18 @@ fn told(judgement: &Judgement) -> (&'static str, &[u8]) {
 }
 
 /// Texts, what they are judged to be, and the line or the report.
-const TEXTS: [(&str, &str, &str); 5] = [
-    ("specification Lamp", "unread", "fault syntax token 3\n"),
+const TEXTS: [(&str, &str, &str); 4] = [
+    (UNREAD, "unread", "fault syntax token 3\n"),
+    (BROKEN, "broken", "fault S1 E\n"),
     (
-        "specification A; event E; event E; state A;",
-        "broken",
-        "fault S1 E\n",
-    ),
-    (
-        "specification A; state A all { state B; }",
+        LAMP,
         "certified",
-        "specification A\ngroups 0\ncertified\n",
+        "specification Lamp\ngroups 2\nchain Tick 1\ncertified\n",
     ),
     (
-        "specification A; enumeration Switch { Down, Up } input X : Switch = Down; event E; \
-         receive R (X) raise E; state A one { default B; state B; stay B on E when { X = Up | T; }; }",
+        REFUSED,
         "refused",
         "specification A\ngroups 1\nchain E 1\nnone A.B on E\n  confirmed\nrefused 1\n",
-    ),
-    (
-        "specification Still; state Still;",
-        "certified",
-        "specification Still\ngroups 0\ncertified\n",
     ),
 ];
 

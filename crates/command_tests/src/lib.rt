@@ -2,20 +2,12 @@
 #![tactic(auto)]
 
 #[cfg(test)]
-mod explaining;
-#[cfg(test)]
-mod faults;
-#[cfg(test)]
 mod judgements;
 #[cfg(test)]
-mod limits;
+mod reads;
 #[cfg(test)]
-mod migrations;
-#[cfg(test)]
-mod reports;
-#[cfg(test)]
-mod rules;
+mod rooms;
 #[cfg(test)]
 mod session;
 #[cfg(test)]
-mod texts;
+mod writes;

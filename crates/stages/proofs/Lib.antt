@@ -1,0 +1,5 @@
+pub mod Belows
+pub mod Children
+pub mod Members
+pub mod Told
+pub mod Typed

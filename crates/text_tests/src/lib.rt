@@ -1,7 +1,0 @@
-//! Texts, with their tokens or their first faults.
-#![tactic(auto)]
-
-#[cfg(test)]
-mod lexer;
-#[cfg(test)]
-mod parser;
