@@ -20,10 +20,6 @@ script == "parser" {
 }
 script == "reading" && NF == 7 && $2 ~ /^[0-9]+$/ { row($1, $6 " ms", "-", "-", $7 " ms") }
 script == "rules" && NF == 6 { row($1, $5 " ms", $4 " ms", $6, "-") }
-script == "phrases" && $NF ~ /^[0-9.]+$/ {
-  if (/^asking/) row("asking, by a small machine", $10 " ns", $16 " ns", $NF, "-")
-  else row($1 " " (NF == 9 ? $4 " " $5 : NF > 9 ? $4 " " $5 " " $6 : $4), $(NF - 3) " ms", $(NF - 2) " ms", $(NF - 1), $NF)
-}
 script == "machine" && NF == 14 {
   row($1, $9 " ms", $10 " ms", $11, "3.00")
   row($1 ", memory by its text", ($12 > 0 ? $12 : 0) " KB", sprintf("%.0f KB", $2 / 1024), $12 > 0 ? $13 : "0.0", "100")
@@ -60,8 +56,11 @@ script == "check" && NF == 8 && $2 ~ /^[0-9]+$/ {
   row($1, $6 " ms", $5 " ms", $7, $1 == "states" ? "1000 ms" : $1 == "demo_64" ? "100 ms" : sums ? "-" : "10000 ms")
 }
 script == "simulate" {
-  if ($4 == "ms") row($1, $3 " ms", $5 " ms", $7, $9)
-  if ($1 == "lamp" && $4 == "ms") row("lamp, one round", sprintf("%.2f us", 1e6 / $8), "-", "-", "2.00 us")
+  if ($4 == "ms") {
+    row($1, $3 " ms", $5 " ms", $7, $12)
+    row($1 ", by one for it alone", $3 " ms", $8 " ms", $10, "-")
+  }
+  if ($1 == "lamp" && $4 == "ms") row("lamp, one round", sprintf("%.2f us", 1e6 / $11), "-", "-", "2.00 us")
   if (/most memory/ && few == "") few = $(NF - 1)
   else if (/most memory/) row("memory, by that for 10,000 events", $(NF - 1) " KB", few " KB", sprintf("%.2f", $(NF - 1) / few), "-")
 }

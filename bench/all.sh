@@ -9,7 +9,7 @@
 set -u
 [ -z "${PROGRAM:-}" ] || { PROGRAM=$(realpath "$PROGRAM"); export PROGRAM; }
 cd "$(dirname "$0")/.." || exit 2
-names=(lexer parser reading rules phrases machine chains steps event_files diagrams tables guards check simulate demo migrate)
+names=(lexer parser reading rules machine chains steps event_files diagrams tables guards check simulate demo migrate)
 work=$(mktemp -d)
 trap 'rm -rf "$work"' EXIT
 

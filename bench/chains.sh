@@ -86,14 +86,14 @@ awk 'BEGIN {
   print "}"
 }' >"$work/wide.rsml"
 
-(cd "$top/crates/chain_bench" && rt run -- typical) >"$work/log" 2>&1 || { tail -n 5 "$work/log"; exit 1; }
-program=$top/crates/chain_bench/out/chain_bench
+(cd "$top/crates/machine_bench" && rt run -- chains typical) >"$work/log" 2>&1 || { tail -n 5 "$work/log"; exit 1; }
+program=$top/crates/machine_bench/out/machine_bench
 status=0
 cd "$work" || exit 1
 
 # run WORD: the line of a run, and its resident memory into `kilobytes`.
 run() {
-  line=$(/usr/bin/time -o "$work/memory" -f %M "$program" seconds "$1") || exit 1
+  line=$(/usr/bin/time -o "$work/memory" -f %M "$program" chain_times "$1") || exit 1
   kilobytes=$(tail -n 1 "$work/memory")
 }
 

@@ -13,7 +13,7 @@ trap 'rm -rf "$work"' EXIT
 (cd crates/guard_bench && rt run -- data/small.rsml > "$work/error" 2>&1) || { tail -n 5 "$work/error"; exit 1; }
 program=crates/guard_bench/out/guard_bench
 
-# The names of the texts, what the trial had, and how each is written.
+# The names of the texts, what the trial had, and how each is written. The trial had 10,000 nodes for one of the four cycles of nine cells.
 names=()
 declare -A written_by trial
 text() { names+=("$1"); trial[$1]=$2; written_by[$1]="${*:3}"; }
@@ -33,8 +33,8 @@ text rev_3_mistaken 364000 rev_3 30 mistaken
 text rev_4 407000 rev_4 30
 text rev_4_mistaken 2600000 rev_4 30 mistaken
 text chain_12 120 chain 12 8
-text cycle_12 16000 cycle 12 8
-text cycle_12_mistaken 18000 cycle 12 8 mistaken
+text cycle_12 40000 cycle 12 8
+text cycle_12_mistaken - cycle 12 8 mistaken
 text pairs_4_mistaken 504000 pairs 4 mistaken
 text pairs_5_mistaken 4700000 pairs 5 mistaken
 [ $# -eq 0 ] || names=("$@")

@@ -1,10 +1,13 @@
 #!/usr/bin/env bash
-# Compares `simulate` with simulators in plain Rust that were written for one specification each, on random event files, through real
-# files to a pipe: the lamp, Tcas, and the plant of 64 units, of which each reacts to each event.
+# Compares `simulate` with simulators in plain Rust on random event files, through real files to a pipe: the lamp, Tcas, and the plant of
+# 64 units, of which each reacts to each event. The general one is an engine over a machine in tables, as ours is; those for one have the
+# guards of one specification each as code.
 #     bench/simulate.sh [EVENTS [TURNS]]
-# A line for each: milliseconds of ours, which contain the check of the specification, and of the plain one, each the least of TURNS
-# (3) runs by turns; their ratio; and how many rounds ours makes in a second. Both traces are compared first. Then the greatest
-# resident memory of ours for files of 10,000 and of ten times EVENTS events. It ends with status 1 where two traces are different.
+# A line for each: milliseconds of ours, which contain the check of the specification; of the general one, and the ratio of ours to it; of
+# the one for this specification, and the ratio to it; how many rounds ours makes in a second; and the aim of the first ratio. Times are
+# the least of TURNS (3) runs by turns. All traces are compared first, and that of the general one for an example with components in
+# others. Then the greatest resident memory of ours for files of 10,000 and of ten times EVENTS events. It ends with status 1 where two
+# traces are different.
 # PROGRAM=FILE takes a program that is built already.
 set -eu
 cd "$(dirname "$0")/.."
@@ -14,7 +17,8 @@ work=$(mktemp -d)
 trap 'rm -rf "$work"' EXIT
 source bench/texts.sh
 
-rustc -O -o "$work/plain" bench/simulate.rs
+rustc -O -o "$work/general" bench/simulator.rs
+rustc -O -o "$work/special" bench/simulate.rs
 if [ -z "${PROGRAM:-}" ]; then
   (cd crates/rsml_main && rt run -- check data/lamp.rsml > /dev/null)
   PROGRAM=crates/rsml_main/out/rsml_main
@@ -31,9 +35,10 @@ file() {
   esac
 }
 
-# ours TASK, plain TASK: the trace of the event file of a task.
+# ours TASK, general TASK, special TASK: the trace of the event file of a task.
 ours() { "$PROGRAM" simulate "$work/$1.rsml" "$work/$1.events"; }
-plain() { "$work/plain" "$1" "$work/$1.events"; }
+general() { "$work/general" "$1" "$work/$1.events"; }
+special() { "$work/special" "$1" "$work/$1.events"; }
 
 # milliseconds WHO TASK: of one run to a pipe.
 milliseconds() {
@@ -45,18 +50,21 @@ milliseconds() {
 
 cp examples/lamp.rsml examples/tcas.rsml "$work"
 demo 64 > "$work/demo.rsml"
-printf '%-6s %10s %10s %10s %7s %10s %6s\n' task events ours plain ratio rounds/s aim
+cmp <("$work/general" cabin examples/guide/cabin.events) examples/guide/cabin.trace || { echo "cabin: another trace"; exit 1; }
+printf '%-6s %10s %10s %10s %7s %10s %7s %10s %6s\n' task events ours general ratio 'for one' ratio rounds/s aim
 for task in lamp tcas demo; do
   file $task "$events" > "$work/$task.events"
-  cmp <(ours $task) <(plain $task) || { echo "$task: another trace"; exit 1; }
-  rounds=$(plain $task | grep -c '^  round')
+  for peer in general special; do
+    cmp <(ours $task) <($peer $task) || { echo "$task: another trace"; exit 1; }
+  done
+  rounds=$(special $task | grep -c '^  round')
   for _ in $(seq "$turns"); do
-    milliseconds ours $task >> "$work/$task.ours"
-    milliseconds plain $task >> "$work/$task.plain"
+    for who in ours general special; do milliseconds $who $task >> "$work/$task.$who"; done
   done
   awk -v task=$task -v events="$events" -v rounds="$rounds" -v ours="$(sort -n "$work/$task.ours" | head -1)" \
-    -v plain="$(sort -n "$work/$task.plain" | head -1)" \
-    'BEGIN { printf "%-6s %10d %7d ms %7d ms %7.2f %10.0f %6.2f\n", task, events, ours, plain, ours / (plain + 0.001), 1000 * rounds / ours, 1.5 }'
+    -v general="$(sort -n "$work/$task.general" | head -1)" -v special="$(sort -n "$work/$task.special" | head -1)" \
+    'BEGIN { printf "%-6s %10d %7d ms %7d ms %7.2f %7d ms %7.2f %10.0f %6.2f\n", task, events, ours, general, ours / (general + 0.001),
+      special, ours / (special + 0.001), 1000 * rounds / (ours + 0.001), 1.5 }'
 done
 for count in 10000 $((10 * events)); do
   file lamp "$count" > "$work/lamp.events"

@@ -5,7 +5,7 @@
     bench/smt.py --compare SCRIPT ANSWERS REPORT     compares what a solver answers to a script with the report of `rsml check`
     bench/smt.py --test COUNT SOLVER..               compares what a solver answers with reports that `tools/report_lines.py` works out
 
-The specifications of a test are those of crates/report_tests, some of examples/, and COUNT random ones without those of very many worlds.
+The specifications of a test are those of tests/reports, some of examples/, and COUNT random ones, without those of very many worlds.
 
 Components and enumerations are numbers, or with `choices` one truth for each child and value, of which exactly one is true; cells of
 ranges are numbers. The first question is whether there is a world at all. Of each group there are two: whether some world that meets
@@ -24,10 +24,10 @@ from pathlib import Path
 HERE = Path(__file__).resolve().parent
 sys.path.insert(0, str(HERE.parent / "tools"))
 
-from instance_lines import constants, path_text  # noqa: E402
+from instance_lines import path_text  # noqa: E402
 from label_lines import Texts, cell_text, group_text, instance_text  # noqa: E402
 from random_specifications import random_specification  # noqa: E402
-from report_lines import REPORT_TESTS, report  # noqa: E402
+from report_lines import report, stored_reports  # noqa: E402
 
 EXAMPLES = ["alerter", "alerter_mended", "lamp"]
 MOST_WORLDS = 100_000
@@ -343,11 +343,8 @@ def compare(written, answers, text):
 
 
 def test_texts(count):
-    for file in sorted(REPORT_TESTS.glob("*.rt")):
-        texts = constants(file.read_text(encoding="utf-8"))
-        for name, text in texts.items():
-            if text.startswith("specification") and f"{name}_REPORT" in texts:
-                yield f"{file.name}: {name}", text
+    for name, text, _ in stored_reports("reports/*"):
+        yield name, text
     for name in EXAMPLES:
         yield name, (HERE.parent / "examples" / f"{name}.rsml").read_text(encoding="utf-8")
     for seed in range(count):

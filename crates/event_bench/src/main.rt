@@ -5,13 +5,12 @@
 #![tactic(auto)]
 
 mod counts;
-mod reading;
 
 use counts::measure;
 use event_file::Next;
-use reading::checked;
 use rsml_io::OsFiles;
 use rsml_syntax::{Checked, NoMemory};
+use spec_reading::checked;
 use std::rt::{Clock, Env, Files};
 use std::time::Instant;
 use std::{env, fs, io};

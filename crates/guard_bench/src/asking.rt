@@ -1,11 +1,11 @@
 ghost use Rattle.rsml_ground.specs.Grounded.{IsShort};
 
-use crate::reading::checked;
 use elaborate::{Machine, elaborate};
 use finding_texts::Verdict;
 use group_verdicts::verdicts_by;
 use guard_encode::Encoder;
 use rsml_syntax::{Checked, NoMemory};
+use spec_reading::checked;
 use std::alloc::Global;
 use std::io;
 

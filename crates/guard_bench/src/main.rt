@@ -6,7 +6,6 @@
 #![tactic(auto)]
 
 mod asking;
-mod reading;
 
 use asking::show_text;
 use std::rt::Files;

@@ -1,24 +1,40 @@
-//! Measures how the machine of a specification is made.
+//! Measures how the machine of a specification is made, and how its chains are found.
 //!
-//! A word is the file of a specification: it is read, its machine is made, and how many of each thing the machine has is printed, a
-//! word and a number in each line. After the word `times` it prints first how many nanoseconds reading and making took; after the
-//! word `read` texts are read alone, and nothing is printed.
+//! A word is a task, which goes for the words behind it, or the file of a specification. The tasks are in `task`. Of the chains a word
+//! may also be the name of a graph, as `ladder`.
 #![tactic(auto)]
 
+mod chains;
 mod counts;
-mod reading;
+mod graphs;
+mod outcome;
+mod shape;
 mod showing;
 mod task;
 
+use graphs::show_graph;
+use shape::Shape;
 use showing::show_text;
 use std::rt::{Clock, Files};
 use std::{env, fs, io};
 use task::Task;
 
 /// Does a task with the text of a file.
-fn show<R: Clock + Print + Files + AllocGlobal>(rt: &R, file: &str, task: Task) -> io::Result<()> {
+fn show_file<R: Clock + Print + Files + AllocGlobal>(
+    rt: &R,
+    file: &str,
+    task: Task,
+) -> io::Result<()> {
     let text = fs::read(rt, file)?;
-    show_text(rt, task, text.as_slice())
+    show_text(rt, file, task, text.as_slice())
+}
+
+/// Does a task with what a word names.
+fn show<R: Clock + Print + Files + AllocGlobal>(rt: &R, word: &str, task: Task) -> io::Result<()> {
+    match (task, Shape::from_word(word)) {
+        (Task::Chains { timed }, Some(shape)) => show_graph(rt, word, shape, timed),
+        _ => show_file(rt, word, task),
+    }
 }
 
 fn main(rt: HostRuntime) -> io::Result<()> {

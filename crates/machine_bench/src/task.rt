@@ -7,6 +7,8 @@ pub enum Task {
     Count,
     /// The same, and reading and making are measured.
     Times,
+    /// Its chains are found, and measured where that is asked for.
+    Chains { timed: bool },
 }
 
 impl Task {
@@ -16,6 +18,8 @@ impl Task {
             "read" => Some(Task::Read),
             "count" => Some(Task::Count),
             "times" => Some(Task::Times),
+            "chains" => Some(Task::Chains { timed: false }),
+            "chain_times" => Some(Task::Chains { timed: true }),
             _ => None,
         }
     }

@@ -13,7 +13,6 @@ mod members;
 mod messages;
 mod phrases;
 mod reacting;
-mod reading;
 mod receives;
 mod run;
 mod task;

@@ -4,18 +4,18 @@ ghost use Rattle.std.specs.Prelude.{◌<◌, length};
 use crate::definitions::push_guard;
 use crate::phrases::{push_numbers, push_sum};
 use elaborate::Machine;
-use ground_members::{GroundAnswer, GroundTransition, GroundValue};
+use ground_members::{GroundAnswer, GroundValue, SharedTransition};
 use rsml_syntax::NoMemory;
 
-fn push_transition(text: &mut String, transition: &GroundTransition) -> Result<(), NoMemory> {
-    write!(text, "{} {}", transition.component, transition.source)?;
-    match transition.target {
+fn push_transition(text: &mut String, transition: &SharedTransition) -> Result<(), NoMemory> {
+    write!(text, "{} {}", transition.component(), transition.source())?;
+    match transition.target() {
         Some(target) => write!(text, " {target}")?,
         None => text.push_str(" -")?,
     }
-    write!(text, " {}", transition.event)?;
-    push_guard(text, &transition.guard)?;
-    push_numbers(text, transition.raises.as_slice())?;
+    write!(text, " {}", transition.event())?;
+    push_guard(text, transition.guard())?;
+    push_numbers(text, transition.raises())?;
     text.push('\n')?;
     Ok(())
 }
@@ -59,9 +59,9 @@ fn push_case(text: &mut String, machine: &Machine<'_>, number: u32) -> Result<()
     requires { number < length machine.now.send_cases }
 {
     let case = machine.send_case(number);
-    write!(text, "{}", case.event)?;
-    push_guard(text, &case.guard)?;
-    push_answer(text, &case.answer)?;
+    write!(text, "{}", case.event())?;
+    push_guard(text, case.guard())?;
+    push_answer(text, case.answer())?;
     text.push('\n')?;
     Ok(())
 }

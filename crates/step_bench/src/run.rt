@@ -5,13 +5,13 @@ ghost use Rattle.step_bench.specs.Messages.{IsMessage};
 
 use crate::dump::dump;
 use crate::messages::{Message, messages};
-use crate::reading::checked;
 use crate::task::Task;
 use crate::timing::{counts, shortest};
 use anyhow::{Result, bail};
 use elaborate::{Machine, elaborate};
 use event_lines::LineForms;
 use rsml_syntax::{Checked, NoMemory};
+use spec_reading::checked;
 use std::rt::{Clock, Env, Files};
 use std::{env, fs};
 

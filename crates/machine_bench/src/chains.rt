@@ -1,11 +1,10 @@
 ghost use Rattle.std.specs.Prelude.{◌≡◌, IfOk};
-ghost use Rattle.rsml_ground.specs.Grounded.{IsShort};
 
 use crate::outcome::Outcome;
-use crate::reading::checked;
-use elaborate::{Machine, elaborate};
+use elaborate::Machine;
 use event_chains::Chains;
 use rsml_syntax::{Checked, NoMemory};
+use spec_reading::checked;
 use std::alloc::Global;
 use std::io;
 use std::rt::Clock;
@@ -90,7 +89,7 @@ fn outcome_of(alloc: Global, checked: &Checked, machine: &Machine<'_>) -> Result
 }
 
 /// Prints what the chains of a machine come to, and the time of finding them.
-fn show_machine<R: Clock + Print + AllocGlobal>(
+fn print_outcome<R: Clock + Print + AllocGlobal>(
     rt: &R,
     word: &str,
     checked: &Checked,
@@ -110,32 +109,18 @@ fn show_machine<R: Clock + Print + AllocGlobal>(
     Ok(())
 }
 
-/// The same of a specification, whose machine is made first.
-fn show_checked<R: Clock + Print + AllocGlobal>(
-    rt: &R,
-    word: &str,
-    checked: &Checked,
-    timed: bool,
-) -> io::Result<()>
-    requires { IsShort checked.now }
-{
-    let Ok(machine) = elaborate(rt.alloc(), checked) else {
-        return print!(rt; "{word} out of memory");
-    };
-    show_machine(rt, word, checked, &machine, timed)
-}
-
 /// Prints the line of a specification: what its chains come to, and the times of finding them and of reading its text.
-pub fn show_text<R: Clock + Print + AllocGlobal>(
+pub fn print_chains<R: Clock + Print + AllocGlobal>(
     rt: &R,
     word: &str,
     text: &[u8],
+    checked: &Checked,
+    machine: &Machine<'_>,
     timed: bool,
-) -> io::Result<()> {
-    let Some(checked) = checked(rt.alloc(), text) else {
-        return println!(rt; "{word} is no specification that keeps the rules");
-    };
-    show_checked(rt, word, &checked, timed)?;
+) -> io::Result<()>
+    requires { machine.now.base.spec ≡ checked.now }
+{
+    print_outcome(rt, word, checked, machine, timed)?;
     if timed {
         let reading = reading_time(rt, text)?;
         print!(rt; " reading {reading}")?;
