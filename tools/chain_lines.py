@@ -1,7 +1,7 @@
 #!/usr/bin/env python3
-"""Reads the specifications of crates/chain_tests, and tells whether the expected lines there are right.
+"""Reads the specifications of crates/stages, and tells whether the expected lines on their chains are right.
 
-    tools/chain_lines.py          compares the lines of crates/chain_tests
+    tools/chain_lines.py          compares the lines of crates/stages/stdout
     tools/chain_lines.py FILE     writes the lines of the specification in a file
 
 `machine_reading.py` reads a specification, by the sentences of docs/language.md alone. Here its chains are tried one by one, as
@@ -12,11 +12,10 @@ import itertools
 import sys
 from pathlib import Path
 
-from instance_lines import FOLDER, constants, is_prefix
+from instance_lines import compare, is_prefix
 from machine_lines import behind
 from machine_reading import Machine
 
-CHAIN_TESTS = FOLDER.parent.parent / "chain_tests/src"
 ROUNDS = 6
 
 
@@ -103,25 +102,9 @@ def lines(it):
     return [*rows, *[f"{at} rounds:{rounds_text(it, event)}" for at, event in starts]]
 
 
-def compare():
-    right = wrong = 0
-    for file in sorted(CHAIN_TESTS.glob("*.rt")):
-        texts = constants(file.read_text(encoding="utf-8"))
-        for name, text in texts.items():
-            if text.startswith("specification"):
-                wanted = texts.get(f"{name}_LINES", "").strip("\n").split("\n")
-                found = lines(Chains(text))
-                right, wrong = right + (found == wanted), wrong + (found != wanted)
-                for one, other in itertools.zip_longest(wanted, found):
-                    if one != other:
-                        print(f"{file.name}: {name}: {one} is {other}")
-    print(f"{right} specifications right, {wrong} wrong")
-    return int(wrong > 0)
-
-
 def main():
     if len(sys.argv) == 1:
-        return compare()
+        return compare(Chains, {"chains found": lambda it, _: lines(it)}, "specifications")
     print(*lines(Chains(Path(sys.argv[1]).read_text(encoding="utf-8"))), sep="\n")
     return 0
 

@@ -1,7 +1,7 @@
 #!/usr/bin/env python3
 """Prints how long the gate takes, crate by crate.
 
-    tools/gate_times.py          runs `rt ci --anew` here, and watches it
+    tools/gate_times.py          runs `rt ci` here, from nothing, and watches it
     tools/gate_times.py PID      watches the `rt ci` that has this process number
 
 It looks twice a second at the provers that the gate runs: which crate each is for, and whether it proves the crate, its
@@ -116,6 +116,12 @@ def table(gate, whole):
     return "\n".join([*lines, "", f"The whole took {minutes} minutes and {seconds} seconds, on {len(os.sched_getaffinity(0))} processors."])
 
 
+def gate_from_nothing():
+    """The command of a gate that takes nothing from an earlier one; a toolchain that keeps what was proved has a word for that."""
+    said = subprocess.run(["rt", "help"], capture_output=True, text=True)
+    return ["rt", "ci", "--anew"] if "--anew" in said.stdout + said.stderr else ["rt", "ci"]
+
+
 def main(words):
     if len(words) > 1 or words and not words[0].isdigit():
         print(__doc__, file=sys.stderr)
@@ -126,7 +132,7 @@ def main(words):
         started = processes().get(gate.rt, (0, started, 0))[1]
         gate.watch(lambda: gate.rt in processes())
     else:
-        ran = subprocess.Popen(["rt", "ci", "--anew"], stdin=subprocess.DEVNULL, stdout=sys.stderr)
+        ran = subprocess.Popen(gate_from_nothing(), stdin=subprocess.DEVNULL, stdout=sys.stderr)
         gate = Gate(ran.pid)
         gate.watch(lambda: ran.poll() is None)
         status = ran.returncode

@@ -1,18 +1,19 @@
 #!/usr/bin/env python3
-"""Reads the specifications of crates/instance_tests, and tells whether the expected lines there are right.
+"""Reads the specifications of crates/stages, and tells whether the expected lines on their trees and numbers are right.
 
     tools/instance_lines.py
 
 It is an independent reading of the definitions: it works on paths alone, by the sentences of docs/language.md, and shares
-nothing with the crates. It reads the constants of src/*.rt, works out the lines of each table that it knows by its name,
-and prints those that differ. Its last line is `N tables right, M wrong`."""
+nothing with the crates. It reads crates/stages/stdout, works out the lines of each table that it knows by its name, of the
+specification in data/, and prints those that differ. Its last line is `N tables right, M wrong`."""
 
 import itertools
 import re
 import sys
 from pathlib import Path
 
-FOLDER = Path(__file__).resolve().parent.parent / "crates/instance_tests/src"
+TOP = Path(__file__).resolve().parent.parent
+STAGES = TOP / "crates/stages"
 TOKEN = re.compile(r"\w+|\.\.|->|!=|<=|>=|\S")
 
 
@@ -186,39 +187,45 @@ def numbers(it, wanted):
     return [f"{row.partition(':')[0]}: {place(texts, row.partition(':')[0])}" for row in wanted]
 
 
-TABLES = {it.__name__.upper(): it for it in (around, families, lines, active, entries, events, cells, previous, paths, numbers)}
-TABLES |= {"FROM_DEFAULTS": entries, "FROM_OTHERS": entries}
+TABLES = {f"tree {it.__name__}": it for it in (around, families, lines, active, entries)} | {"tree entries_from": entries}
+TABLES |= {f"names {it.__name__}": it for it in (events, cells, previous, paths, numbers)}
 
 
-def constants(text):
-    """The string constants of a file of code, by their names."""
-    found = re.findall(r'const (\w+): &str = "(.*?)";', text, re.S)
-    # A line of a string that ends in \ goes on at the first character of the next.
-    return {name: re.sub(r"\\\n\s*", "", value).replace("\\n", "\n") for name, value in found}
+def sections():
+    """The tables of crates/stages/stdout: of each the file of its specification, what asks for it, and its lines."""
+    file, found = "", []
+    for line in (STAGES / "stdout").read_text(encoding="utf-8").removesuffix("\n").split("\n"):
+        mark, _, rest = line.partition(" ")
+        if mark == "#":
+            file = rest
+        elif mark == "##":
+            found.append((file, rest, []))
+        else:
+            found[-1][2].append(line)
+    return found
 
 
-def compare(folder, read, tables_of):
-    """Compares the tables of a folder with those that are worked out: a table of the specification that its file names."""
-    texts = {it: it.read_text(encoding="utf-8") for it in sorted(folder.glob("*.rt"))}
-    specifications = {name: value for it in texts.values() for name, value in constants(it).items() if value.startswith("specification")}
+def part(words):
+    """The lines from a number to before another one: all where two numbers are not given."""
+    return slice(*map(int, words)) if len(words) == 2 else slice(None)
+
+
+def compare(read, tables_of, counted="tables"):
+    """Compares the tables that have these names with those that are worked out of their specifications."""
     right = wrong = 0
-    for file, text in texts.items():
-        named = [name for name in specifications if re.search(rf"\b{name}\b", text)]
-        tables = {name: value for name, value in constants(text).items() if name in tables_of}
-        if tables and len(named) != 1:
-            print(f"{file.name}: it names {len(named)} specifications, and one is read")
-            wrong += len(tables)
+    for file, asked, wanted in sections():
+        stage, table, *words = asked.split()
+        if f"{stage} {table}" not in tables_of:
             continue
-        for name, value in tables.items():
-            wanted = value.strip("\n").split("\n")
-            found = tables_of[name](read(specifications[named[0]]), wanted)
-            right, wrong = right + (found == wanted), wrong + (found != wanted)
-            for one, other in itertools.zip_longest(wanted, found):
-                if one != other:
-                    print(f"{file.name}: {name}: {one} is {other}")
-    print(f"{right} tables right, {wrong} wrong")
+        text = (STAGES / "data" / file).read_text(encoding="utf-8")
+        found = tables_of[f"{stage} {table}"](read(text), wanted)[part(words)]
+        right, wrong = right + (found == wanted), wrong + (found != wanted)
+        for one, other in itertools.zip_longest(wanted, found):
+            if one != other:
+                print(f"{file}: {asked}: {one} is {other}")
+    print(f"{right} {counted} right, {wrong} wrong")
     return int(wrong > 0)
 
 
 if __name__ == "__main__":
-    sys.exit(compare(FOLDER, Specification, TABLES))
+    sys.exit(compare(Specification, TABLES))

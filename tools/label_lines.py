@@ -1,7 +1,7 @@
 #!/usr/bin/env python3
-"""Reads the specifications of crates/label_tests, and tells whether the expected lines there are right.
+"""Reads the specifications of crates/stages, and tells whether the expected lines on their labels and texts are right.
 
-    tools/label_lines.py          compares the tables of crates/label_tests
+    tools/label_lines.py          compares the tables of crates/stages/stdout
     tools/label_lines.py FILE     writes all lines of the specification in a file
 
 `machine_reading.py` reads a specification, and `instance_lines.py` says how tables are compared. Here are the texts of labels,
@@ -10,11 +10,9 @@ instances and values, by the sentences of docs/formats.md alone."""
 import sys
 from pathlib import Path
 
-from instance_lines import FOLDER, compare, path_text
+from instance_lines import compare, path_text
 from machine_lines import checksum
 from machine_reading import Machine
-
-LABEL_TESTS = FOLDER.parent.parent / "label_tests/src"
 
 
 class Texts(Machine):
@@ -161,12 +159,12 @@ def total(it, wanted):
     return [str(checksum(lines(it, wanted)))]
 
 
-TABLES = {"LINES": lines, "SUM": total}
+TABLES = {"labels all": lines, "labels sum": total}
 
 
 def main():
     if len(sys.argv) == 1:
-        return compare(LABEL_TESTS, Texts, TABLES)
+        return compare(Texts, TABLES)
     print(*lines(Texts(Path(sys.argv[1]).read_text(encoding="utf-8")), []), sep="\n")
     return 0
 

@@ -1,7 +1,7 @@
 #!/usr/bin/env python3
-"""Reads the specifications of crates/machine_tests, and tells whether the expected lines there are right.
+"""Reads the specifications of crates/stages, and tells whether the expected lines on their machines are right.
 
-    tools/machine_lines.py          compares the tables of crates/machine_tests
+    tools/machine_lines.py          compares the tables of crates/stages/stdout
     tools/machine_lines.py FILE     writes all lines of the specification in a file, asked in its first world
 
 `machine_reading.py` reads a specification, by the sentences of docs/language.md alone, and `instance_lines.py` says how tables
@@ -10,10 +10,8 @@ are compared. Here is how the lines are written."""
 import sys
 from pathlib import Path
 
-from instance_lines import FOLDER, compare, digits, path_text
+from instance_lines import compare, digits, path_text
 from machine_reading import Machine
-
-MACHINE_TESTS = FOLDER.parent.parent / "machine_tests/src"
 
 
 def behind(items):
@@ -115,16 +113,6 @@ def enabled(it, wanted):
     return rows
 
 
-def some(table):
-    """The lines of a table that begin with the same word as one that is wanted."""
-
-    def rows(it, wanted):
-        numbers = {row.split()[0] for row in wanted}
-        return [row for row in table(it, wanted) if row.split()[0] in numbers]
-
-    return rows
-
-
 def checksum(rows):
     """The bytes of the lines as the digits of a number of base 257, by a prime."""
     found = 0
@@ -137,16 +125,15 @@ def sums(it, wanted):
     return [f"transitions {checksum(transitions(it, wanted))}", f"groups {checksum(groups(it, wanted))}"]
 
 
-TABLES = {it.__name__.upper(): it for it in (counts, events, transitions, cases, groups, enabled, sums)}
-TABLES |= {f"{part}_{it.__name__.upper()}": some(it) for part in ("FIRST", "LAST") for it in (transitions, groups)}
+TABLES = {f"machine {it.__name__}": it for it in (counts, events, transitions, cases, groups, enabled, sums)}
 
 
 def main():
     if len(sys.argv) == 1:
-        return compare(MACHINE_TESTS, Machine, TABLES)
+        return compare(Machine, TABLES)
     machine = Machine(Path(sys.argv[1]).read_text(encoding="utf-8"))
-    for name in ("COUNTS", "EVENTS", "TRANSITIONS", "CASES", "GROUPS", "ENABLED", "SUMS"):
-        print(name, *TABLES[name](machine, [""]), sep="\n")
+    for name, table in TABLES.items():
+        print(f"## {name}", *table(machine, [""]), sep="\n")
     return 0
 
 

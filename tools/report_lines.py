@@ -1,11 +1,11 @@
 #!/usr/bin/env python3
 """The report on a small specification, worked out by trying all of its worlds.
 
-    tools/report_lines.py                         compares the reports of crates/report_tests
+    tools/report_lines.py                         compares the reports that the case files of tests/ have
     tools/report_lines.py FILE                    writes the report on the specification in a file
     tools/report_lines.py --random COUNT PROGRAM  compares COUNT random specifications with what `PROGRAM check FILE` writes
 
-`machine_reading.py`, `label_lines.py` and `chain_lines.py` read a specification by the sentences of docs/language.md and
+Case files in which specifications have too many worlds are left out. `machine_reading.py`, `label_lines.py` and `chain_lines.py` read a specification by the sentences of docs/language.md and
 docs/formats.md alone, and share nothing with the crates. Random specifications are made by `random_specifications.py`; where one
 differs it is printed with both reports. The last line of a comparison is `N reports right, M wrong`."""
 
@@ -15,12 +15,15 @@ import sys
 import tempfile
 from pathlib import Path
 
+from cases import cases_of, text_of
 from chain_lines import Chains
-from instance_lines import FOLDER, constants, path_text
+from instance_lines import TOP, path_text
 from label_lines import Texts, cell_text, group_text, instance_text, member_text, number_text
 from random_specifications import random_specification
 
-REPORT_TESTS = FOLDER.parent.parent / "report_tests/src"
+TESTS = TOP / "tests"
+REPORTS = "check/examples", "check/lamp", "check/language", "random/*", "reports/*"
+TOO_MANY_WORLDS = "check/examples: tcas.rsml", "reports/demo: a.rsml", "reports/fixed: a.rsml"
 
 
 class Reading(Chains, Texts):
@@ -92,16 +95,22 @@ def report(text, reading=Reading):
     return "\n".join([*lines, f"refused {refusals}" if refusals else "certified", ""])
 
 
+def stored_reports(*patterns):
+    """The reports in case files: the name of each, its specification, and itself."""
+    for file in sorted(it for pattern in patterns for it in TESTS.glob(f"{pattern}.cases")):
+        for case in cases_of(str(file))[1]:
+            told = f"{file.relative_to(TESTS).with_suffix('')}: {case.words[1]}"
+            if case.words[0] == "check" and case.status < 2 and told not in TOO_MANY_WORLDS:
+                yield case.place, text_of(case.files[case.words[1]], str(file.parent)).decode(), case.answer.decode()
+
+
 def compare_tests():
     right = wrong = 0
-    for file in sorted(REPORT_TESTS.glob("*.rt")):
-        texts = constants(file.read_text(encoding="utf-8"))
-        for name, text in texts.items():
-            if text.startswith("specification") and f"{name}_REPORT" in texts:
-                is_right = report(text) == texts[f"{name}_REPORT"]
-                right, wrong = right + is_right, wrong + (not is_right)
-                if not is_right:
-                    print(f"{file.name}: {name}", report(text), sep="\n")
+    for place, text, wanted in stored_reports(*REPORTS):
+        found = report(text)
+        right, wrong = right + (found == wanted), wrong + (found != wanted)
+        if found != wanted:
+            print(place, found, sep="\n")
     print(f"{right} reports right, {wrong} wrong")
     return int(wrong > 0)
 

@@ -3,7 +3,7 @@
 set -u
 cd "$(dirname "$0")/.." || exit 1
 status=0
-for copy in crates/example_reports/data/* crates/rsml_main/data/*; do
+for copy in crates/rsml_main/data/*; do
     original=examples/$(basename "$copy")
     cmp -s "$original" "$copy" || {
         printf '%s differs from %s\n' "$copy" "$original"

@@ -1,7 +1,7 @@
 #!/usr/bin/env python3
-"""Reads the specifications of crates/step_tests, and tells whether the expected lines there are right.
+"""Reads the specifications of crates/stages, and tells whether the expected lines on their micro-steps are right.
 
-    tools/step_lines.py             compares the tables of crates/step_tests
+    tools/step_lines.py             compares the tables of crates/stages/stdout
     tools/step_lines.py FILE FILE   writes the lines of the event lines in a file by the specification in another file
 
 `machine_reading.py` reads a specification, by the sentences of docs/language.md alone, and `instance_lines.py` says how tables
@@ -13,11 +13,9 @@ import re
 import sys
 from pathlib import Path
 
-from instance_lines import FOLDER, compare, digits
+from instance_lines import compare, digits
 from machine_lines import behind, world_text
 from machine_reading import Machine
-
-STEP_TESTS = FOLDER.parent.parent / "step_tests/src"
 
 ROUND = re.compile(r"\d+:")
 
@@ -132,7 +130,7 @@ def orders(it, wanted):
 
 def main():
     if len(sys.argv) == 1:
-        return compare(STEP_TESTS, Machine, {"STEPS": steps, "ORDERS": orders})
+        return compare(Machine, {"steps rounds": steps, "steps orders": orders})
     text, lines = (Path(name).read_text(encoding="utf-8") for name in sys.argv[1:])
     print(*steps(Machine(text), lines.splitlines()), sep="\n")
     return 0

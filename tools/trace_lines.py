@@ -1,15 +1,16 @@
 #!/usr/bin/env python3
 """What `simulate` writes, worked out from a specification and an event file by an independent reading.
 
-    tools/trace_lines.py                         compares the traces of crates/simulation_tests and of crates/example_reports
+    tools/trace_lines.py                         compares the traces of tests/simulate, and those of crates/command_tests
     tools/trace_lines.py SPEC EVENTS             writes what `simulate` writes for these files, and ends with its status
-    tools/trace_lines.py --random COUNT PROGRAM  compares COUNT random event files for the specifications of crates/simulation_tests with
+    tools/trace_lines.py --random COUNT PROGRAM  compares COUNT random event files for the specifications of tests/simulate with
                                                  what `PROGRAM simulate SPEC EVENTS` writes
 
 `machine_reading.py`, `label_lines.py`, `step_lines.py` and `report_lines.py` read a specification by the sentences of docs/language.md
 and docs/formats.md alone, and share nothing with the crates. Here are the lines of an event file, what they say, and the lines of a
 trace. A specification has to keep all rules. One with at most 100,000 worlds is judged by trying them all, and where it is refused its
-report is written; a larger one is taken to be certified. Event files are made by `random_events.py`. The last line of a comparison is
+report is written; a larger one is taken to be certified. Cases of specifications that break a rule are left out. In
+crates/command_tests is what is written where a read is refused. Event files are made by `random_events.py`. The last line of a comparison is
 `N traces right, M wrong`."""
 
 import itertools
@@ -20,26 +21,22 @@ import sys
 import tempfile
 from pathlib import Path
 
-from instance_lines import FOLDER, constants
+from cases import cases_of, text_of
+from instance_lines import TOP
 from label_lines import instance_text, label, number_text
 from random_events import random_events
-from report_lines import Reading, report
+from report_lines import TESTS, Reading, report
 from step_lines import latched, micro_steps, raised_by, sent_number
 
-CRATES = FOLDER.parent.parent
-EXAMPLES = CRATES.parent / "examples"
-SIMULATED = ("lamp", "lamp"), ("tcas", "tcas"), ("alerter", "lamp"), ("lamp", "tcas"), ("lamp", "missing")
+COMMAND_TESTS = TOP / "crates/command_tests/src"
+# Case files without random event files: those of specifications that are refused or none, and of examples.
+NOT_RANDOM = "refusals", "examples"
 
 MOST_WORLDS = 100_000
 LINE_LIMIT, FILE_LIMIT = 4_096, 4_294_967_296
 
-# The statuses by their numbers.
-STATUSES = ["Done", "Refused", "SpecFault", "EventFault", "Usage", "ReadFault", "WriteFault", "NoMemory", "TooLong"]
-
-# A table of event files with what is written for each, one of what is written where a read is refused from some bytes on, and their rows.
-FILES = re.compile(r"const (\w+)_FILES: \[\(&\[u8\], Status, &str\); \d+\] = \[(.*?)\];\n", re.S)
-READS = re.compile(r"const (\w+)_READS: \[\(usize, &str\); \d+\] = \[(.*?)\];\n", re.S)
-FILES_ROW = re.compile(r'\(\s*b"((?:[^"\\]|\\.)*)",\s*Status::(\w+),\s*"((?:[^"\\]|\\.)*)",?\s*\)', re.S)
+# A table of what is written where a read is refused from some bytes on, and its rows.
+READS = re.compile(r"const READS: \[\(usize, &str\); \d+\] = \[(.*?)\];\n", re.S)
 READS_ROW = re.compile(r'\(\s*(\d+),\s*"((?:[^"\\]|\\.)*)",?\s*\)', re.S)
 
 
@@ -190,45 +187,42 @@ def literal(text):
     return re.sub(r"\\\n\s*", "", text).encode().decode("unicode_escape").encode("latin-1")
 
 
-def test_files():
-    """The code of the tests, and the specifications there by their names."""
-    files = [it.read_text(encoding="utf-8") for it in sorted((CRATES / "simulation_tests/src").glob("*.rt"))]
-    texts = {name: value for file in files for name, value in constants(file).items()}
-    return files, {name: value for name, value in texts.items() if value.startswith("specification")}
-
-
-def test_traces():
-    """Each trace of the tests, with its name and what is worked out. Reads are refused of the first event file of a table."""
-    (files, texts), events = test_files(), {}
-    for name, rows in (table for file in files for table in FILES.findall(file)):
-        for at, row in enumerate(FILES_ROW.findall(rows), 1):
-            content, status, written = row
-            events.setdefault(name, literal(content))
-            wanted = literal(written).decode(), STATUSES.index(status)
-            yield f"{name}_FILES {at}", wanted, simulation(texts[name], literal(content))
-    for name, rows in (table for file in files for table in READS.findall(file)):
-        found = [(int(read), literal(written).decode()) for read, written in READS_ROW.findall(rows)]
-        for (start, written), (end, _) in itertools.pairwise([*found, (len(events[name]) + 1, "")]):
-            for read in range(start, end):
-                yield f"{name}_READS {read}", (written, 5), simulation(texts[name], events[name], read)
+def simulated():
+    """Each case of a specification that keeps the rules: its file, itself, the specification, and the event file or nothing."""
+    for file in sorted((TESTS / "simulate").glob("*.cases")):
+        for case in cases_of(str(file))[1]:
+            if case.status != 2:
+                texts = [text_of(case.files[it], str(file.parent)) if it in case.files else None for it in case.words[1:]]
+                yield file.stem, case, texts[0].decode(), texts[1]
 
 
 def stored_traces():
-    """What is stored behind the reports on the examples, and what is worked out."""
-    stored = (CRATES / "example_reports/stdout").read_text(encoding="utf-8")
-    rest = stored[stored.find("\nevent 1 ") + 1 :]
-    for names in SIMULATED:
-        spec, events = names
-        written, status = of_files(EXAMPLES / f"{spec}.rsml", EXAMPLES / f"{events}.events")
-        yield f"example_reports {names}", (rest[: len(written)], status), (written, status)
-        rest = rest[len(written) :]
-    if rest:
-        yield "example_reports", (rest, 0), ("", 0)
+    """Each trace of the case files, with its place and what is worked out: reads of an event file that is not there are refused."""
+    for _, case, text, events in simulated():
+        yield case.place, (case.answer.decode(), case.status), simulation(text, events or b"", 0 if events is None else None)
+
+
+def constants(text):
+    """The string constants of a file of code, by their names."""
+    found = re.findall(r'const (\w+): &str = "(.*?)";', text, re.S)
+    # A line of a string that ends in \ goes on at the first character of the next.
+    return {name: re.sub(r"\\\n\s*", "", value).replace("\\n", "\n") for name, value in found}
+
+
+def refused_reads():
+    """What the tests in crates/command_tests have for each number of bytes of the event file of the lamp, and what is worked out."""
+    told = constants((COMMAND_TESTS / "session.rt").read_text(encoding="utf-8"))
+    text, events = told["LAMP"], told["EVENTS"].encode()
+    rows = READS_ROW.findall(READS.search((COMMAND_TESTS / "reads.rt").read_text(encoding="utf-8"))[1])
+    found = [(int(read), literal(written).decode()) for read, written in rows]
+    for (start, written), (end, _) in itertools.pairwise([*found, (len(events) + 1, "")]):
+        for read in range(start, end):
+            yield f"command_tests {read}", (written, 5), simulation(text, events, read)
 
 
 def random_traces(count, program):
     """What a program writes for random event files, and what is worked out."""
-    texts = sorted(test_files()[1].items())
+    texts = sorted({name: text for name, _, text, _ in simulated() if name not in NOT_RANDOM}.items())
     with tempfile.TemporaryDirectory() as folder:
         spec, events = Path(folder) / "spec", Path(folder) / "events"
         for seed in range(count):
@@ -252,7 +246,7 @@ def compare(traces):
 
 def main():
     if len(sys.argv) == 1:
-        return compare((*test_traces(), *stored_traces()))
+        return compare((*stored_traces(), *refused_reads()))
     if sys.argv[1] == "--random":
         return compare(random_traces(int(sys.argv[2]), sys.argv[3]))
     written, status = of_files(*map(Path, sys.argv[1:]))
