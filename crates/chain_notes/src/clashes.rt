@@ -6,10 +6,17 @@ use crate::steps::{put_placed, tell_steps};
 use event_chains::Clash;
 use ground_groups::Member;
 use rsml_base::NoMemory;
-use source_notes::Notes;
+use source_notes::{Notes, Piece};
 use std::alloc::Global;
 use text_writer::{Draft, Writer, put_number};
 use written_members::{Scene, written_at};
+
+/// What a clash is, and how it is mended.
+const LINES: [&str; 3] = [
+    "both may be present in one round, since guards play no part in chains, and both would be reacted to here",
+    "to mend a clash, raise one event in place of both, and tell apart in guards on it what is to be done",
+    "an event that several transitions raise is present once, and guards on it see the states they lead to",
+];
 
 /// The last round of which chains are told.
 const LAST_ROUND: u32 = 64;
@@ -125,14 +132,25 @@ fn tell_clash(notes: &mut Notes<'_>, scene: &Scene<'_, '_>, clash: &Clash) -> Re
     tell_chains(notes, scene, clash)
 }
 
-/// Tells clashes.
+/// Tells what a clash is, and how it is mended.
+fn tell_mend(notes: &mut Notes<'_>) -> Result<(), NoMemory> {
+    for line in LINES {
+        notes.say(&[Piece::Words(line)])?;
+    }
+    Ok(())
+}
+
+/// Tells clashes, and behind the last one what a clash is and how it is mended.
 pub fn tell_clashes(
     notes: &mut Notes<'_>,
     scene: &Scene<'_, '_>,
     clashes: &[Clash],
 ) -> Result<(), NoMemory> {
+    if clashes.is_empty() {
+        return Ok(());
+    }
     for clash in clashes {
         tell_clash(notes, scene, clash)?;
     }
-    Ok(())
+    tell_mend(notes)
 }

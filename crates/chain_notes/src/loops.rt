@@ -4,10 +4,17 @@ use crate::reached::{Reached, Step};
 use crate::steps::tell_steps;
 use ground_groups::Member;
 use rsml_base::NoMemory;
-use source_notes::Notes;
+use source_notes::{Notes, Piece};
 use std::alloc::Global;
 use text_writer::{Draft, Writer, put_number};
 use written_members::{Scene, written_at};
+
+/// What a loop is made of, and how it is mended.
+const LINES: [&str; 3] = [
+    "guards play no part in loops, and there may be more than one chain round",
+    "to mend a loop, leave out one of its raises, with the transition where that does nothing else,",
+    "or raise there a new event from which no chain leads back",
+];
 
 /// The steps of a shortest chain from an event to itself, from the last to the first.
 fn ring(alloc: Global, reached: &Reached, start: u32, events: u32) -> Result<Vec<Step>, NoMemory> {
@@ -64,14 +71,25 @@ fn tell_loop(notes: &mut Notes<'_>, scene: &Scene<'_, '_>, event: u32) -> Result
     tell_ring(notes, scene, event, steps.as_slice())
 }
 
-/// Tells the events that loop.
+/// Tells what a loop is made of, and how it is mended.
+fn tell_mend(notes: &mut Notes<'_>) -> Result<(), NoMemory> {
+    for line in LINES {
+        notes.say(&[Piece::Words(line)])?;
+    }
+    Ok(())
+}
+
+/// Tells the events that loop, and behind the last one how a loop is mended.
 pub fn tell_loops(
     notes: &mut Notes<'_>,
     scene: &Scene<'_, '_>,
     events: &[u32],
 ) -> Result<(), NoMemory> {
+    if events.is_empty() {
+        return Ok(());
+    }
     for event in events {
         tell_loop(notes, scene, *event)?;
     }
-    Ok(())
+    tell_mend(notes)
 }
