@@ -68,7 +68,7 @@ impl Memo {
     }
 
     /// The truths of all phrases. Those that are not known are of no use.
-    pub(crate) fn truths(&self) -> &Truths
+    pub fn truths(&self) -> &Truths
         ensures count { length result.now ≡ length self.now }
         ensures right { Agrees self.now result.now }
     {
@@ -76,7 +76,7 @@ impl Memo {
     }
 
     /// Makes the truth of a phrase known.
-    pub(crate) fn learn(&mut self, phrase: u32, truth: bool)
+    pub fn learn(&mut self, phrase: u32, truth: bool)
         requires { phrase < length self.old }
         ensures { self.new ≡ slice_set self.old phrase (Some truth) }
     {
