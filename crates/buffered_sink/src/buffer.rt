@@ -49,9 +49,14 @@ impl Buffer {
         ensures some { result < length bytes.now → self.new.bytes ≢ [] }
         ensures room { self.new.room ≡ self.old.room }
     {
-        let n = bytes.len().min(self.room - self.bytes.len());
-        self.bytes.extend_from_slice(&bytes[..n]).unwrap();
-        n
+        let left = self.room - self.bytes.len();
+        if bytes.len() <= left {
+            self.bytes.extend_from_slice(bytes).unwrap();
+            bytes.len()
+        } else {
+            self.bytes.extend_from_slice(&bytes[..left]).unwrap();
+            left
+        }
     }
 
     /// Lets bytes from the front go.
@@ -60,6 +65,10 @@ impl Buffer {
         ensures rest { self.new.bytes ≡ drop n self.old.bytes }
         ensures room { self.new.room ≡ self.old.room }
     {
-        self.bytes.drain(..n);
+        if n == self.bytes.len() {
+            self.bytes.clear();
+        } else {
+            self.bytes.drain(..n);
+        }
     }
 }
