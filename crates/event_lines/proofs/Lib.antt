@@ -7,3 +7,4 @@ pub mod FormLemmas
 pub mod LineLemmas
 pub mod MostLemmas
 pub mod FieldTexts
+pub mod KnownLemmas

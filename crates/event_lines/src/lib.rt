@@ -7,11 +7,13 @@ mod digits;
 mod field;
 mod form;
 mod indexing;
+mod known;
 mod line_fault;
 mod line_forms;
 mod owners;
 mod reading;
 mod received;
+mod receives;
 mod value_type;
 mod words;
 

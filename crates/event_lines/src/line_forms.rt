@@ -14,6 +14,7 @@ use crate::line_fault::LineFault;
 use crate::owners::Owners;
 use crate::reading::read_fields;
 use crate::received::Received;
+use crate::receives::Receives;
 use crate::value_type::ValueType;
 use crate::words::{first_word, split_word};
 use rsml_syntax::{Checked, NoMemory, Spec};
@@ -26,7 +27,7 @@ use std::str::from_utf8;
 #[derive(Drop)]
 pub struct LineForms<'a> {
     spec: &'a Spec,
-    owners: Owners<'a>,
+    receives: Receives<'a>,
     types: Vec<ValueType<'a>>,
     forms: Vec<Option<Form<'a>>>,
 }
@@ -44,7 +45,7 @@ impl<'a> Model for LineForms<'a> {
 
     ghost view = { λ l. l.spec.now };
 
-    ghost invariant = { λ l. (l.owners ≡ l.spec.now.decls)
+    ghost invariant = { λ l. (l.receives ≡ l.spec.now.decls)
         × AreForms l.spec.now.decls l.types.items l.forms.items };
 }
 
@@ -105,9 +106,10 @@ impl<'a> LineForms<'a> {
         let owners = Owners::new(alloc, decls)?;
         let types = value_types(alloc, decls)?;
         let forms = forms_of(alloc, &owners, decls)?;
+        let receives = Receives::new(alloc, owners, decls)?;
         Ok(LineForms {
             spec,
-            owners,
+            receives,
             types,
             forms,
         })
@@ -126,7 +128,7 @@ impl<'a> LineForms<'a> {
         ensures { MatchOption result (lines.interface (globals_of self.now) name.now ≡ None)
             (λ form. IsFormOf self.now name.now form.now) }
     {
-        let number = self.owners.number(name)?;
+        let number = self.receives.number(name)?;
         form_at(self.forms.as_slice(), number)
     }
 

@@ -7,6 +7,7 @@ ghost use Rattle.event_lines.specs.helpers.Values as spec;
 ghost use Rattle.event_lines.specs.helpers.Values.{TypedField};
 
 use crate::field::Field;
+use crate::known::behind;
 use crate::line_fault::LineFault;
 use crate::value_type::ValueType;
 use crate::words::first_word;
@@ -23,7 +24,7 @@ fn behind_mark(rest: &[u8]) -> Option<&[u8]>
 fn value_text<'w>(name: &[u8], word: &'w [u8]) -> Option<&'w [u8]>
     ensures { option_copied result ≡ spec.value_text name.now word.now }
 {
-    match word.strip_prefix(name) {
+    match behind(word, name) {
         Some(rest) => behind_mark(rest),
         None => None,
     }
