@@ -1,5 +1,5 @@
 ghost use Rattle.std.specs.Prelude.{◌≡◌, [], IfOk};
-ghost use Rattle.std.specs.Option.{option_copied, option_map_or};
+ghost use Rattle.std.specs.Option.{option_copied, option_map, option_map_or};
 ghost use Rattle.rsml_meaning.specs.Instances.{globals_of};
 ghost use Rattle.rsml_meaning.specs.Texts.{value_text};
 ghost use Rattle.rsml_meaning.specs.Trace.{names_of_kind, value_kind};
@@ -8,11 +8,10 @@ ghost use Rattle.instance_texts.specs.SentCases.{sent_value, sent_field};
 
 use crate::answered::{Answered, answers};
 use crate::listings::listing;
-use crate::sent_names::value_names;
 use crate::sorts::Sort;
 use crate::values::put_value;
 use rsml_names::Globals;
-use rsml_syntax::{Checked, NoMemory, Spec, Text, Value};
+use rsml_syntax::{Checked, NoMemory, Spec, Text};
 use std::alloc::Global;
 use std::marker::Model;
 use text_writer::Writer;
@@ -22,7 +21,6 @@ use text_writer::Writer;
 #[derive(Drop)]
 pub struct SentTexts<'a> {
     spec: &'a Spec,
-    globals: Globals<'a>,
     cases: Vec<Answered<'a>>,
 }
 
@@ -38,7 +36,7 @@ impl<'a> Model for SentTexts<'a> {
 
     ghost view = { λ t. t.spec.now };
 
-    ghost invariant = { λ t. AreSent t.spec.now t.globals t.cases.items };
+    ghost invariant = { λ t. AreSent t.spec.now t.cases.items };
 }
 
 impl<'a> SentTexts<'a> {
@@ -49,12 +47,8 @@ impl<'a> SentTexts<'a> {
         let spec = checked.spec();
         let globals = Globals::new(alloc, spec.decls.as_slice())?;
         let sends = listing(alloc, &globals, Sort::Send, spec.decls.as_slice())?;
-        let cases = answers(alloc, &sends)?;
-        Ok(SentTexts {
-            spec,
-            globals,
-            cases,
-        })
+        let cases = answers(alloc, &globals, &sends)?;
+        Ok(SentTexts { spec, cases })
     }
 
     /// The name of the field at a place of the case of a number. None exactly where there is none.
@@ -68,13 +62,14 @@ impl<'a> SentTexts<'a> {
         }
     }
 
-    // The value that the case of a number gives the field at a place.
-    fn value(&self, case: u32, place: usize) -> Option<&'a Value>
-        ensures { option_copied result ≡ sent_value self.now case place }
+    // The names of the value that the case of a number gives the field at a place.
+    fn names(&self, case: u32, place: usize) -> Option<&'a [Text]>
+        ensures { let g = globals_of self.now in option_copied result
+            ≡ option_map (λ value. names_of_kind g (value_kind g value)) (sent_value self.now case place) }
     {
         let _ = &self.spec;
         match self.cases.get(case as usize) {
-            Some(answered) => answered.value(place),
+            Some(answered) => answered.names_at(place),
             None => None,
         }
     }
@@ -86,8 +81,8 @@ impl<'a> SentTexts<'a> {
             (option_map_or (λ value. value_text (names_of_kind g (value_kind g value)) number) (sent_value self.now case place) [])
             (W.state writer.new) (W.text writer.new) }
     {
-        match self.value(case, place) {
-            Some(value) => put_value(writer, value_names(&self.globals, value), number),
+        match self.names(case, place) {
+            Some(names) => put_value(writer, names, number),
             None => {}
         }
     }
