@@ -1,5 +1,5 @@
 -- Rising numbers: one put in, and when two lists of them are one.
-use Rattle.std.proofs.Common.{◌≡◌, ℕ, zero, suc, ◌+◌, ◌-◌, ◌<◌, ◌≤◌, ◌==◌, ◌||◌, Bool, true, false, List, [], ◌∷◌, length, get_or, slice_get, Some, Result, Ok, Err, IfErr, ⊎_elim, inl, inr, ◌⊎◌, refl, sym, ap, ◌∙◌, subst, true≢false, arith}
+use Rattle.std.proofs.Common.{◌≡◌, ℕ, zero, suc, ◌+◌, ◌-◌, ◌<◌, ◌≤◌, ◌==◌, ◌||◌, Bool, true, false, List, [], ◌∷◌, ◌++◌, length, get_or, slice_get, Some, None, Result, Ok, Err, IfErr, ⊎_elim, inl, inr, ◌⊎◌, refl, sym, ap, ◌∙◌, subst, true≢false, arith}
 use Rattle.std.specs.List.{insert}
 use Rattle.std.proofs.lemmas.Bool.{eqb-true, ne_eqb, cases_eq, cases_lt}
 use Rattle.std.specs.Cmp.{nat_eq_equiv}
@@ -8,6 +8,7 @@ use Rattle.std.specs.List.Sorted.{IsBinarySearchResult}
 use Rattle.std.specs.Ordering.{nat_cmp}
 use Rattle.std.proofs.lemmas.List.Sorted.{searched}
 use Rattle.rsml_meaning.specs.Words.{Each}
+use Rattle.state_tree.proofs.Lists.{within_get}
 use Rattle.micro_step.specs.Rising.{AreRising, among, AreKept, IsPlaceFor}
 
 -- Tests.
@@ -186,6 +187,16 @@ past_last xs y last r at l = record {
       omega (arith, p, is, l);
   high = λ k m n. absurd (omega (arith, m, n));
 }
+
+-- above none of them
+pub past_none : (xs : List ℕ) (y : ℕ) → slice_get xs (length xs - 1) ≡ None → IsPlaceFor xs (length xs) y
+past_none [] y e = record { within = omega arith; low = λ k m. absurd (omega (arith, m)); high = λ k l m. absurd (omega (arith, m)) }
+past_none (x ∷ xs) y e = absurd (let no : ⊥ = (let at = within_get (x ∷ xs) (length (x ∷ xs) - 1) (omega arith) in let two = sym e ∙ at.1 in cc) in no)
+
+-- a number is put behind the last
+pub put_behind : (xs : List ℕ) (y : ℕ) → xs ++ y ∷ [] ≡ insert xs (length xs) y
+put_behind [] y = refl
+put_behind (x ∷ xs) y = ap (λ ns. x ∷ ns) (put_behind xs y)
 
 pub room_at : (xs : List ℕ) (i y bound room : ℕ) → AreKept xs bound room → y < bound → IsPlaceFor xs i y → length xs < room
 room_at xs i y bound room kept below p = room_for xs i y bound room kept below p.within p.low p.high

@@ -1,6 +1,10 @@
+pub mod Asked
+pub mod Candidates
+pub mod Choices
 pub mod Micros
 pub mod Numbers
 pub mod Places
 pub mod Rising
-pub mod Seen
+pub mod Rows
 pub mod Sets
+pub mod StatePhrases

@@ -1,11 +1,14 @@
 -- What a machine does, over its numbers.
-use Rattle.std.specs.Prelude.{◌≡◌, ℕ, ◌<◌, Bool, ◌&&◌, List, [], map, length, Option, Some, None, slice_get, slice_index_or, ℤ}
+use Rattle.std.specs.Prelude.{◌≡◌, ℕ, ◌<◌, Bool, ◌&&◌, List, [], map, length, Option, Some, None, slice_get, slice_index_or, fold, ℤ, All}
 use Rattle.std.specs.List.{AllZip, list_any}
 use Rattle.std.specs.Option.{option_map_or}
 use Rattle.rsml_syntax.specs.declared.world.World.{World}
 use Rattle.rsml_meaning.specs.Active.{enter}
 use Rattle.rsml_meaning.specs.Cells.{cells}
 use Rattle.state_tree.specs.Numbers.{component_path, path_of}
+use Rattle.and_or_tables.specs.Ground.{known}
+use Rattle.rsml_ground.specs.declared.definitions.GroundGuard.{GroundGuard}
+use Rattle.rsml_ground.specs.declared.definitions.GroundGuard.TheVariants as guards
 use Rattle.rsml_ground.specs.Truths.{sum_number, value_in}
 use Rattle.rsml_ground.specs.Rests.{SumFits}
 use Rattle.ground_members.specs.declared.transitions.GroundTransition.{GroundTransition}
@@ -16,8 +19,12 @@ use Rattle.ground_members.specs.declared.send_cases.GroundAnswer.{GroundAnswer}
 use Rattle.ground_members.specs.declared.send_cases.GroundAnswer.TheVariants as answer
 use Rattle.elaborate.specs.Machine.{GroundMachine}
 use Rattle.elaborate.specs.Enabled.{is_enabled, is_sending}
+use Rattle.micro_step.specs.declared.candidates.Candidate.{Candidate}
 use Rattle.micro_step.specs.declared.events.Events.{Events}
+use Rattle.micro_step.specs.declared.state_phrases.StatePhrase.{StatePhrase}
+use Rattle.micro_step.specs.Candidates.{AreOfTransitions, AreOfCases}
 use Rattle.micro_step.specs.Sets.{has}
+use Rattle.micro_step.specs.StatePhrases.{IsStatePhrase}
 use Rattle.micro_step.specs.Rising.{Numbers, among}
 use Rattle.micro_step.specs.Places.{passes, places_where}
 
@@ -35,6 +42,10 @@ after_move m choices x = elim x.target [
 -- the children after the transition of a number
 abbrev pub after_number : GroundMachine → List ℕ → ℕ → List ℕ
 after_number m choices k = option_map_or (after_move m choices) (slice_get m.transitions k) choices
+
+-- the world after the transitions of these numbers: their moves are entered one after another
+abbrev pub left_by : GroundMachine → World → List ℕ → World
+left_by m w taken = record w { choices = fold (after_number m) w.choices taken }
 
 -- the number of a value in a world
 abbrev pub value_number : GroundMachine → World → GroundValue → ℤ
@@ -63,17 +74,26 @@ abbrev pub ValueFits : GroundMachine → GroundValue → Type 0
 ValueFits m (value.Sum x) = SumFits (length (cells m.base.spec)) x
 ValueFits m (value.Function k) = k < length m.base.definitions
 
+-- the truths of the rows of a guard's table, by those of the phrases
+abbrev pub ground_rows : List Bool → GroundGuard → List Bool
+ground_rows truths guards.Always = []
+ground_rows truths (guards.Table table) = map (λ row. known truths row.phrase) table.rows
+
 -- the items at these places
 abbrev pub picked : List ℕ → List ℕ → List ℕ
 picked ks places = map (λ p. slice_index_or ks p 0) places
 
 -- What a machine keeps for its micro-steps: what is known of the phrases, the numbers of the taken transitions and of the send
--- cases, and for each case of a send the numbers of its values.
+-- cases, and for each case of a send the numbers of its values; and for each event the candidates for the transitions and for
+-- the cases of sends on it, and phrases about states alone.
 pub record Kept : Type 0 where
   pub memo : List (Option Bool)
   pub taken : Numbers
   pub sent : Numbers
   pub values : List (List ℤ)
+  pub transitions : List (List Candidate)
+  pub cases : List (List Candidate)
+  pub states : List (List StatePhrase)
 
 -- It was made for the machine.
 pub record IsFor (m : GroundMachine) (k : Kept) : Type 0 where
@@ -81,6 +101,9 @@ pub record IsFor (m : GroundMachine) (k : Kept) : Type 0 where
   pub taken : k.taken.below ≡ length m.transitions
   pub sent : k.sent.below ≡ length m.send_cases
   pub values : HaveRoom m k.values
+  pub transitions : AreOfTransitions m k.transitions
+  pub cases : AreOfCases m k.cases
+  pub states : All (All (IsStatePhrase m.base)) k.states
 
 -- the numbers of the transitions that are enabled in a world on the events of a set, rising
 abbrev pub taken_at : GroundMachine → World → Events → List ℕ

@@ -1,20 +1,27 @@
 //! Micro-steps of a specification over numbers.
 #![tactic(auto)]
 
+mod asked;
 mod asking;
+mod candidates;
+mod choices;
 mod events;
+mod learning;
 mod moves;
+mod needed;
+mod prepared;
 mod raising;
 mod rising;
+mod rows;
 mod scratch;
-mod seen;
 mod sending;
+mod state_phrases;
 mod steps;
 mod sums;
 mod taking;
 mod values;
 
 pub use events::Events;
-pub use moves::apply_in;
+pub use moves::{apply_in, enter_all};
 pub use scratch::Scratch;
-pub use steps::micro;
+pub use steps::{micro, react};

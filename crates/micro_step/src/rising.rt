@@ -1,4 +1,4 @@
-ghost use Rattle.std.specs.Prelude.{◌≡◌, ◌<◌, ◌==◌, ◌||◌, ℕ, [], IfErr, IfOk, Some, slice_get};
+ghost use Rattle.std.specs.Prelude.{◌≡◌, ◌<◌, ◌==◌, ◌||◌, ℕ, [], true, length, IfErr, IfOk, Some, slice_get};
 ghost use Rattle.rsml_meaning.specs.Words.{Each};
 ghost use Rattle.micro_step.specs.Rising.{AreRising, IsPlaceFor, among};
 
@@ -24,16 +24,24 @@ impl Model for Rising {
     ghost invariant = { λ r. AreKept r.items.items r.bound (vec_capacity r.items) };
 }
 
-/// The place of a number among rising ones, or else the one where it is to stand. Behind the last it is found at once.
+/// Whether a number is above all of rising ones.
+fn is_above(number: u32, items: &[u32]) -> bool
+    requires { AreRising items.now }
+    ensures { result ≡ true → IsPlaceFor items.now (length items.now) number }
+{
+    match items.last() {
+        Some(last) => *last < number,
+        None => true,
+    }
+}
+
+/// The place of a number among rising ones, or else the one where it is to stand.
 fn place_of(items: &[u32], number: u32) -> Result<usize, usize>
     requires { AreRising items.now }
     ensures there { IfOk result (λ place. slice_get items.now place ≡ Some number) }
     ensures new { IfErr result (λ place. IsPlaceFor items.now place number) }
 {
-    match items.last() {
-        Some(last) if *last < number => Err(items.len()),
-        _ => items.binary_search(&number),
-    }
+    items.binary_search(&number)
 }
 
 impl Rising {
@@ -52,8 +60,23 @@ impl Rising {
         self.items.clear();
     }
 
-    /// Puts a number in its place.
+    /// Puts a number in its place. Above all others that is found at once.
     pub fn put(&mut self, number: u32)
+        requires { number < self.old.below }
+        ensures below { self.new.below ≡ self.old.below }
+        ensures among { (q : ℕ) → among self.new.items q ≡ (among self.old.items q || number == q) }
+        ensures rising { AreRising self.new.items }
+    {
+        let _ = &self.bound;
+        if is_above(number, self.items.as_slice()) {
+            self.items.push_reserved(number);
+            return;
+        }
+        self.insert(number);
+    }
+
+    /// Puts a number in its place, which is looked for by halves.
+    fn insert(&mut self, number: u32)
         requires { number < self.old.below }
         ensures below { self.new.below ≡ self.old.below }
         ensures among { (q : ℕ) → among self.new.items q ≡ (among self.old.items q || number == q) }

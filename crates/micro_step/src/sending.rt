@@ -1,52 +1,31 @@
-ghost use Rattle.std.specs.Prelude.{◌≡◌, ◌<◌, ◌==◌, ◌||◌, ◌&&◌, ℕ, [], length};
+ghost use Rattle.std.specs.Prelude.{◌≡◌, ◌<◌, ◌==◌, ◌||◌, ◌&&◌, ℕ, [], length, map};
 ghost use Rattle.rsml_meaning.specs.Instances.{events};
 ghost use Rattle.rsml_meaning.specs.Worlds.{IsWorld};
 ghost use Rattle.macros.specs.Known.{Knows};
 ghost use Rattle.elaborate.specs.Enabled as spec;
+ghost use Rattle.micro_step.specs.Candidates.{AreOfCases};
 ghost use Rattle.micro_step.specs.Micros.{AreEvents};
 ghost use Rattle.micro_step.specs.Numbers.{sent_at};
 ghost use Rattle.micro_step.specs.Places.{passes};
 ghost use Rattle.micro_step.specs.Rising.{AreRising, among};
 
-use crate::asking::ask;
+use crate::candidates::{Candidate, put_enabled};
 use crate::events::Events;
 use crate::rising::Rising;
 use elaborate::Machine;
 use macros::Memo;
 use rsml_syntax::World;
 
-/// Whether a case of a send is enabled: its guard is true.
-fn is_sending(machine: &Machine<'_>, world: &World, memo: &mut Memo, case: u32) -> bool
-    requires world { IsWorld machine.now.base.spec world.now }
-    requires knows { Knows machine.now.base world.now memo.old }
-    requires case { case < length machine.now.send_cases }
-    ensures sending { result ≡ passes (spec.is_sending machine.now world.now) machine.now.send_cases case }
-    ensures knows { Knows machine.now.base world.now memo.new }
-{
-    ask(machine, world, memo, machine.case_guard(case))
-}
-
-/// Puts in a case of a send if it is enabled.
-fn send_one(machine: &Machine<'_>, world: &World, memo: &mut Memo, case: u32, sent: &mut Rising)
-    requires world { IsWorld machine.now.base.spec world.now }
-    requires knows { Knows machine.now.base world.now memo.old }
-    requires case { case < length machine.now.send_cases }
-    requires bound { sent.old.below ≡ length machine.now.send_cases }
-    requires rising { AreRising sent.old.items }
-    ensures among { (q : ℕ) → among sent.new.items q ≡ (among sent.old.items q
-        || (case == q && passes (spec.is_sending machine.now world.now) machine.now.send_cases q)) }
-    ensures rising { AreRising sent.new.items }
-    ensures bound { sent.new.below ≡ length machine.now.send_cases }
-    ensures knows { Knows machine.now.base world.now memo.new }
-{
-    if !is_sending(machine, world, memo, case) {
-        return;
-    }
-    sent.put(case);
-}
-
 /// Puts in the cases of sends on an event that are enabled.
-fn send_on(machine: &Machine<'_>, world: &World, memo: &mut Memo, event: u32, sent: &mut Rising)
+fn send_on(
+    machine: &Machine<'_>,
+    world: &World,
+    memo: &mut Memo,
+    candidates: &[Vec<Candidate>],
+    event: u32,
+    sent: &mut Rising,
+)
+    requires candidates { AreOfCases machine.now (map (λ v. v.items) candidates.now) }
     requires world { IsWorld machine.now.base.spec world.now }
     requires knows { Knows machine.now.base world.now memo.old }
     requires event { event < length (events machine.now.base.spec) }
@@ -58,10 +37,8 @@ fn send_on(machine: &Machine<'_>, world: &World, memo: &mut Memo, event: u32, se
     ensures bound { sent.new.below ≡ length machine.now.send_cases }
     ensures knows { Knows machine.now.base world.now memo.new }
 {
-    let there = machine.cases_on(event);
-    for case in there {
-        send_one(machine, world, memo, *case, sent);
-    }
+    let there = candidates[event as usize].as_slice();
+    put_enabled(machine, world, memo, there, sent);
 }
 
 /// Puts in the cases of sends on the events of a set that are enabled in the world.
@@ -69,9 +46,11 @@ pub fn send(
     machine: &Machine<'_>,
     world: &World,
     memo: &mut Memo,
+    candidates: &[Vec<Candidate>],
     present: &Events,
     sent: &mut Rising,
 )
+    requires candidates { AreOfCases machine.now (map (λ v. v.items) candidates.now) }
     requires world { IsWorld machine.now.base.spec world.now }
     requires knows { Knows machine.now.base world.now memo.old }
     requires present { AreEvents machine.now.base.spec present.now }
@@ -84,7 +63,7 @@ pub fn send(
     let count = machine.events() as usize;
     let mut from = 0;
     while let Some(event) = present.next_below(from, count) {
-        send_on(machine, world, memo, event as u32, sent);
+        send_on(machine, world, memo, candidates, event as u32, sent);
         from = event + 1;
     }
 }

@@ -1,41 +1,42 @@
-use Rattle.std.proofs.Common.{◌==◌, get_or, refl, ◌∙◌}
+use Rattle.std.proofs.Common.{◌≡◌, ◌<◌, ◌==◌, ◌||◌, ◌&&◌, ℕ, Bool, List, length, sym, ap, ◌∙◌, subst}
+use Rattle.std.specs.List.{list_any, All}
 use Rattle.elaborate.specs.Enabled.{is_sending}
-use Rattle.micro_step.specs.Places.{passes}
+use Rattle.elaborate.specs.OnEvents.{cases_on}
+use Rattle.micro_step.specs.declared.candidates.Candidate.{Candidate}
+use Rattle.micro_step.specs.Candidates.{Fits, is_met}
 use Rattle.micro_step.specs.Rising.{among}
-use Rattle.micro_step.proofs.PlaceLemmas.{gather_none, gather_more, gather_all}
-use Rattle.micro_step.proofs.LoopLemmas.{on_event, listed_below}
+use Rattle.micro_step.proofs.CandidateLemmas.{event_within, for_event, fits_of, below_of, met_on}
 use Rattle.micro_step.proofs.sending.send_on.Goals as goal
 
-pub loop-case-init : goal.loop-case-init
-loop-case-init c = record {
-  bound = c.requires.bound;
-  rising = c.requires.rising;
-  knows = c.requires.knows;
-  gathered = gather_none (among c.args.sent.now.items) (passes (is_sending c.args.machine.now c.args.world.now) c.args.machine.now.send_cases) c.cases_on-there.result.now c.args.sent.now.items (λ q. refl);
-}
-
-pub send_one-requires-clause-case : goal.send_one-requires-clause-case
-send_one-requires-clause-case c =
-    let ts = c.args.machine.now.send_cases in
-    let ks = c.cases_on-there.result.now in
-    listed_below (λ x. x.event == c.args.event) ts ks c.loop-case.case-index (get_or ks c.loop-case.case-index 0)
-    (c.cases_on-there.ensures ∙ on_event (λ x. x.event) c.args.event 0 ts) c.loop-case-test.true refl
-
-pub loop-case-preserved : goal.loop-case-preserved
-loop-case-preserved c =
+pub bounds-candidates-event : goal.bounds-candidates-event
+bounds-candidates-event c =
     let m = c.args.machine.now in
-    let ks = c.cases_on-there.result.now in
-    record {
-      bound = c.send_one.ensures.bound;
-      rising = c.send_one.ensures.rising;
-      knows = c.send_one.ensures.knows;
-      gathered = gather_more (among c.args.sent.now.items) (passes (is_sending m c.args.world.now) m.send_cases) ks c.loop-case.sent.items c.send_one.new.sent.items c.loop-case.case-index
-          (get_or ks c.loop-case.case-index 0) c.loop-case-test.true refl c.send_one.ensures.among c.loop-case.invariant.gathered;
-    }
+    event_within m (is_sending m) m.send_cases (cases_on m) (λ v. v.items) c.args.candidates.now c.args.event c.requires.candidates c.requires.event
+
+pub put_enabled-requires-clause-fits : goal.put_enabled-requires-clause-fits
+put_enabled-requires-clause-fits c =
+    let m = c.args.machine.now in
+    let v = c.index-candidates-event.result in
+    let within = event_within m (is_sending m) m.send_cases (cases_on m) (λ v. v.items) c.args.candidates.now c.args.event c.requires.candidates c.requires.event in
+    let for = for_event m (is_sending m) m.send_cases (cases_on m) (λ v. v.items) c.args.candidates.now c.args.event v c.requires.candidates within c.index-candidates-event.is in
+    subst (All (Fits m)) (sym c.as_slice-there.ensures.value) (fits_of m (is_sending m) m.send_cases (cases_on m c.args.event) v.items for)
+
+pub put_enabled-requires-clause-numbers : goal.put_enabled-requires-clause-numbers
+put_enabled-requires-clause-numbers c =
+    let m = c.args.machine.now in
+    let v = c.index-candidates-event.result in
+    let within = event_within m (is_sending m) m.send_cases (cases_on m) (λ v. v.items) c.args.candidates.now c.args.event c.requires.candidates c.requires.event in
+    let for = for_event m (is_sending m) m.send_cases (cases_on m) (λ v. v.items) c.args.candidates.now c.args.event v c.requires.candidates within c.index-candidates-event.is in
+    subst (All (λ (x : Candidate). x.number < c.args.sent.now.below)) (sym c.as_slice-there.ensures.value)
+    (below_of m (is_sending m) m.send_cases (cases_on m c.args.event) v.items c.args.sent.now.below c.requires.bound for)
 
 pub returns-clause-among : goal.returns-clause-among
-returns-clause-among c =
+returns-clause-among c = λ q.
     let m = c.args.machine.now in
-    let ks = c.cases_on-there.result.now in
-    gather_all (among c.args.sent.now.items) (λ x. x.event == c.args.event) (is_sending m c.args.world.now) m.send_cases ks c.loop-case.sent.items c.loop-case.case-index
-    c.loop-case-test.false (c.cases_on-there.ensures ∙ on_event (λ x. x.event) c.args.event 0 m.send_cases) c.loop-case.invariant.gathered
+    let w = c.args.world.now in
+    let v = c.index-candidates-event.result in
+    let within = event_within m (is_sending m) m.send_cases (cases_on m) (λ v. v.items) c.args.candidates.now c.args.event c.requires.candidates c.requires.event in
+    let for = for_event m (is_sending m) m.send_cases (cases_on m) (λ v. v.items) c.args.candidates.now c.args.event v c.requires.candidates within c.index-candidates-event.is in
+    c.put_enabled.ensures.among q
+    ∙ ap (λ (cs : List Candidate). among c.args.sent.now.items q || list_any (λ x. x.number == q && is_met m w x) cs) c.as_slice-there.ensures.value
+    ∙ ap (λ (b : Bool). among c.args.sent.now.items q || b) (met_on m w (is_sending m) (λ x. x.event) m.send_cases c.args.event v.items q c.requires.world for)

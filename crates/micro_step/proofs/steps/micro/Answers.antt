@@ -1,37 +1,33 @@
-use Rattle.std.proofs.Common.{◌&&◌, List, ℕ, fold, sym, ap, ◌∙◌, refl}
+use Rattle.std.proofs.Common.{◌≡◌, ◌&&◌, List, ℕ, fold, sym, ap, ◌∙◌, subst}
+use Rattle.rsml_syntax.specs.declared.world.World.{World}
+use Rattle.rsml_meaning.specs.Worlds.{IsWorld}
 use Rattle.elaborate.specs.Enabled.{is_enabled}
-use Rattle.micro_step.specs.Numbers.{raised_at, after_number}
+use Rattle.micro_step.specs.Micros.{IsMicro}
+use Rattle.micro_step.specs.Numbers.{after_number, of_cases}
 use Rattle.micro_step.specs.Sets.{has}
-use Rattle.micro_step.proofs.MachineLemmas.{raised_within}
-use Rattle.micro_step.proofs.MicroLemmas.{is_micro, leaves_world, is_determinate, world_choices}
+use Rattle.micro_step.proofs.MicroLemmas.{world_choices}
 use Rattle.micro_step.proofs.LoopLemmas.{places_below}
 use Rattle.micro_step.proofs.steps.micro.Goals as goal
-
-pub raised_by-requires : goal.raised_by-requires
-raised_by-requires c =
-    places_below (λ x. has c.args.events.now x.event && is_enabled c.args.machine.now c.args.world.now x) c.args.machine.now.transitions c.taken.result.now (c.taken.ensures ∙ c.read.ensures.taken)
 
 pub enter_all-requires-clause-fit : goal.enter_all-requires-clause-fit
 enter_all-requires-clause-fit c = world_choices c.args.machine.now.base.spec c.args.world.now c.requires.world
 
 pub enter_all-requires-clause-taken : goal.enter_all-requires-clause-taken
 enter_all-requires-clause-taken c =
-    places_below (λ x. has c.args.events.now x.event && is_enabled c.args.machine.now c.args.world.now x) c.args.machine.now.transitions c.taken-2.result.now (c.taken-2.ensures ∙ c.read.ensures.taken)
+    places_below (λ x. has c.args.events.now x.event && is_enabled c.args.machine.now c.args.world.now x) c.args.machine.now.transitions c.taken.result.now (c.taken.ensures ∙ c.react.ensures.taken)
 
 pub returns-clause-micro : goal.returns-clause-micro
 returns-clause-micro c =
     let m = c.args.machine.now in
-    is_micro m c.args.world.now (record c.args.world.now { choices = c.enter_all.new.choices }) c.args.events.now c.raised_by.result c.read.new.self.taken.items c.read.new.self.sent.items c.read.new.self.values
-    c.law.ensures c.requires.world c.read.ensures.taken c.read.ensures.sent c.read.ensures.values refl
-    (c.enter_all.ensures ∙ ap (λ (ks : List ℕ). fold (after_number m) c.args.world.now.choices ks) c.taken-2.ensures)
-    (λ q. c.raised_by.ensures q ∙ ap (λ (ks : List ℕ). raised_at m ks q) c.taken.ensures)
-
-pub returns-clause-certified : goal.returns-clause-certified
-returns-clause-certified c = is_determinate c.args.machine.now c.args.world.now _ c.args.events.now c.raised_by.result _ _ _ c.rounds_are_determinate.ensures c.law.ensures c.requires.world (returns-clause-micro c)
+    let w = c.args.world.now in
+    let k = c.react.new.scratch in
+    let entered = c.enter_all.ensures ∙ ap (λ (ks : List ℕ). fold (after_number m) w.choices ks) c.taken.ensures in
+    subst (λ (ns : List ℕ). IsMicro m.base.spec w c.args.events.now k.taken.items k.sent.items (of_cases k.values k.sent.items) (record w { choices = ns }) c.react.new.events) (sym entered)
+    c.react.ensures.micro
 
 pub returns-clause-world : goal.returns-clause-world
-returns-clause-world c = leaves_world c.args.machine.now c.args.world.now _ c.args.events.now c.raised_by.result _ _ _ c.micro_steps_have_one_result.ensures.worlds c.law.ensures c.requires.world (returns-clause-micro c)
-
-pub returns-clause-events : goal.returns-clause-events
-returns-clause-events c = λ k h.
-    raised_within c.args.machine.now c.taken.result.now k c.law.ensures (sym (c.raised_by.ensures k) ∙ h)
+returns-clause-world c =
+    let m = c.args.machine.now in
+    let w = c.args.world.now in
+    let entered = c.enter_all.ensures ∙ ap (λ (ks : List ℕ). fold (after_number m) w.choices ks) c.taken.ensures in
+    subst (λ (ns : List ℕ). IsWorld m.base.spec (record w { choices = ns })) (sym entered) c.react.ensures.left

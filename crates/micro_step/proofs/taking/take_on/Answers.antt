@@ -1,44 +1,42 @@
-use Rattle.std.proofs.Common.{◌≡◌, ◌==◌, ℕ, Bool, Option, IfSome, get_or, refl, sym, subst, ◌∙◌}
-use Rattle.rsml_ground.specs.Truths.{is_active as active_in}
+use Rattle.std.proofs.Common.{◌≡◌, ◌<◌, ◌==◌, ◌||◌, ◌&&◌, ℕ, Bool, List, length, sym, ap, ◌∙◌, subst}
+use Rattle.std.specs.List.{list_any, All}
 use Rattle.elaborate.specs.Enabled.{is_enabled}
-use Rattle.micro_step.specs.Places.{passes}
+use Rattle.elaborate.specs.OnEvents.{transitions_on}
+use Rattle.micro_step.specs.declared.candidates.Candidate.{Candidate}
+use Rattle.micro_step.specs.Candidates.{Fits, is_met}
 use Rattle.micro_step.specs.Rising.{among}
-use Rattle.micro_step.proofs.PlaceLemmas.{gather_none, gather_more, gather_all}
-use Rattle.micro_step.proofs.LoopLemmas.{on_event, listed_below}
+use Rattle.micro_step.proofs.CandidateLemmas.{event_within, for_event, fits_of, below_of, met_on}
 use Rattle.micro_step.proofs.taking.take_on.Goals as goal
 
-pub loop-transition-init : goal.loop-transition-init
-loop-transition-init c = record {
-  bound = c.requires.bound;
-  rising = c.requires.rising;
-  knows = c.requires.knows;
-  seen = subst (λ (last : Option (ℕ × Bool)). IfSome last (λ known. known.1 ≡ active_in c.args.machine.now.base.spec c.args.world.now known.0)) (sym c.new-seen.ensures) tt;
-  gathered = gather_none (among c.args.taken.now.items) (passes (is_enabled c.args.machine.now c.args.world.now) c.args.machine.now.transitions) c.transitions_on-there.result.now c.args.taken.now.items (λ q. refl);
-}
-
-pub take_one-requires-clause-transition : goal.take_one-requires-clause-transition
-take_one-requires-clause-transition c =
-    let ts = c.args.machine.now.transitions in
-    let ks = c.transitions_on-there.result.now in
-    listed_below (λ x. x.event == c.args.event) ts ks c.loop-transition.transition-index (get_or ks c.loop-transition.transition-index 0)
-    (c.transitions_on-there.ensures ∙ on_event (λ x. x.event) c.args.event 0 ts) c.loop-transition-test.true refl
-
-pub loop-transition-preserved : goal.loop-transition-preserved
-loop-transition-preserved c =
+pub bounds-candidates-event : goal.bounds-candidates-event
+bounds-candidates-event c =
     let m = c.args.machine.now in
-    let ks = c.transitions_on-there.result.now in
-    record {
-      bound = c.take_one.ensures.bound;
-      rising = c.take_one.ensures.rising;
-      knows = c.take_one.ensures.knows;
-      seen = c.take_one.ensures.seen;
-      gathered = gather_more (among c.args.taken.now.items) (passes (is_enabled m c.args.world.now) m.transitions) ks c.loop-transition.taken.items c.take_one.new.taken.items c.loop-transition.transition-index
-          (get_or ks c.loop-transition.transition-index 0) c.loop-transition-test.true refl c.take_one.ensures.among c.loop-transition.invariant.gathered;
-    }
+    event_within m (is_enabled m) m.transitions (transitions_on m) (λ v. v.items) c.args.candidates.now c.args.event c.requires.candidates c.requires.event
+
+pub put_enabled-requires-clause-fits : goal.put_enabled-requires-clause-fits
+put_enabled-requires-clause-fits c =
+    let m = c.args.machine.now in
+    let v = c.index-candidates-event.result in
+    let within = event_within m (is_enabled m) m.transitions (transitions_on m) (λ v. v.items) c.args.candidates.now c.args.event c.requires.candidates c.requires.event in
+    let for = for_event m (is_enabled m) m.transitions (transitions_on m) (λ v. v.items) c.args.candidates.now c.args.event v c.requires.candidates within c.index-candidates-event.is in
+    subst (All (Fits m)) (sym c.as_slice-there.ensures.value) (fits_of m (is_enabled m) m.transitions (transitions_on m c.args.event) v.items for)
+
+pub put_enabled-requires-clause-numbers : goal.put_enabled-requires-clause-numbers
+put_enabled-requires-clause-numbers c =
+    let m = c.args.machine.now in
+    let v = c.index-candidates-event.result in
+    let within = event_within m (is_enabled m) m.transitions (transitions_on m) (λ v. v.items) c.args.candidates.now c.args.event c.requires.candidates c.requires.event in
+    let for = for_event m (is_enabled m) m.transitions (transitions_on m) (λ v. v.items) c.args.candidates.now c.args.event v c.requires.candidates within c.index-candidates-event.is in
+    subst (All (λ (x : Candidate). x.number < c.args.taken.now.below)) (sym c.as_slice-there.ensures.value)
+    (below_of m (is_enabled m) m.transitions (transitions_on m c.args.event) v.items c.args.taken.now.below c.requires.bound for)
 
 pub returns-clause-among : goal.returns-clause-among
-returns-clause-among c =
+returns-clause-among c = λ q.
     let m = c.args.machine.now in
-    let ks = c.transitions_on-there.result.now in
-    gather_all (among c.args.taken.now.items) (λ x. x.event == c.args.event) (is_enabled m c.args.world.now) m.transitions ks c.loop-transition.taken.items c.loop-transition.transition-index
-    c.loop-transition-test.false (c.transitions_on-there.ensures ∙ on_event (λ x. x.event) c.args.event 0 m.transitions) c.loop-transition.invariant.gathered
+    let w = c.args.world.now in
+    let v = c.index-candidates-event.result in
+    let within = event_within m (is_enabled m) m.transitions (transitions_on m) (λ v. v.items) c.args.candidates.now c.args.event c.requires.candidates c.requires.event in
+    let for = for_event m (is_enabled m) m.transitions (transitions_on m) (λ v. v.items) c.args.candidates.now c.args.event v c.requires.candidates within c.index-candidates-event.is in
+    c.put_enabled.ensures.among q
+    ∙ ap (λ (cs : List Candidate). among c.args.taken.now.items q || list_any (λ x. x.number == q && is_met m w x) cs) c.as_slice-there.ensures.value
+    ∙ ap (λ (b : Bool). among c.args.taken.now.items q || b) (met_on m w (is_enabled m) (λ x. x.event) m.transitions c.args.event v.items q c.requires.world for)

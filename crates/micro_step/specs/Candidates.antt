@@ -1,0 +1,46 @@
+-- What is prepared of the transitions and the cases of sends on each event.
+use Rattle.std.specs.Prelude.{◌≡◌, ◌<◌, ℕ, Bool, ◌&&◌, List, map, length, Some, All, slice_get}
+use Rattle.rsml_syntax.specs.declared.world.World.{World}
+use Rattle.rsml_meaning.specs.Instances.{events}
+use Rattle.rsml_meaning.specs.Worlds.{IsWorld}
+use Rattle.rsml_ground.specs.Truths.{truths_in}
+use Rattle.elaborate.specs.Machine.{GroundMachine}
+use Rattle.elaborate.specs.OnEvents.{transitions_on, cases_on}
+use Rattle.elaborate.specs.Enabled.{is_enabled, is_sending}
+use Rattle.micro_step.specs.declared.candidates.Candidate.{Candidate}
+use Rattle.micro_step.specs.Asked.{AskedBelow, asked_truth}
+use Rattle.micro_step.specs.Choices.{AreOfComponents, are_chosen}
+use Rattle.micro_step.specs.Places.{passes}
+
+-- the children of the choices are chosen, and the guard is true
+abbrev pub is_met : GroundMachine → World → Candidate → Bool
+is_met m w c = are_chosen w.choices c.choices.items && asked_truth (truths_in m.base w) c.asked
+
+-- A candidate names components and phrases that there are.
+pub record Fits (m : GroundMachine) (c : Candidate) : Type 0 where
+  pub components : AreOfComponents m.base.spec c.choices.items
+  pub phrases : AskedBelow (length m.base.phrases) c.asked
+
+-- A candidate has the number of an item, and is met in a world exactly where that passes.
+pub record TellsOf {A : Type 0} (m : GroundMachine) (test : World → A → Bool) (xs : List A) (c : Candidate) : Type 0 where
+  pub fits : Fits m c
+  pub below : c.number < length xs
+  pub right : (w : World) → IsWorld m.base.spec w → is_met m w c ≡ passes (test w) xs c.number
+
+-- There is a candidate for each of these numbers, in order.
+pub record AreFor {A : Type 0} (m : GroundMachine) (test : World → A → Bool) (xs : List A) (numbers : List ℕ) (cs : List Candidate) : Type 0 where
+  pub in_order : map (λ c. c.number) cs ≡ numbers
+  pub each : All (TellsOf m test xs) cs
+
+-- There is a list for each event, with a candidate for each of its numbers.
+pub record AreOnEvents {A : Type 0} (m : GroundMachine) (test : World → A → Bool) (xs : List A) (numbers : ℕ → List ℕ) (lists : List (List Candidate)) : Type 0 where
+  pub many : length lists ≡ length (events m.base.spec)
+  pub each : (event : ℕ) (cs : List Candidate) → slice_get lists event ≡ Some cs → AreFor m test xs (numbers event) cs
+
+-- for each event the candidates for the transitions on it
+abbrev pub AreOfTransitions : GroundMachine → List (List Candidate) → Type 0
+AreOfTransitions m lists = AreOnEvents m (is_enabled m) m.transitions (transitions_on m) lists
+
+-- for each event the candidates for the cases of sends on it
+abbrev pub AreOfCases : GroundMachine → List (List Candidate) → Type 0
+AreOfCases m lists = AreOnEvents m (is_sending m) m.send_cases (cases_on m) lists
