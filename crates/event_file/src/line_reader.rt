@@ -81,6 +81,13 @@ impl LineReader {
         self.number
     }
 
+    /// The bytes that are held, from the beginning of the next line on.
+    pub fn held(&self) -> &[u8]
+        ensures { result.now ≡ self.now.held }
+    {
+        self.buffer.held()
+    }
+
     /// Whether a whole line is held that is not too long, so that `next` reads nothing.
     pub fn holds_line(&self) -> bool
         ensures { (result ≡ true) ↔ HoldsLine self.now }

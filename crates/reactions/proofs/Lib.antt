@@ -1,5 +1,4 @@
 pub mod ChainBounds
 pub mod RaisedLemmas
-pub mod SeriesLemmas
+pub mod SettledLemmas
 pub mod WrittenLemmas
-pub mod TurnLemmas

@@ -1,58 +1,48 @@
--- What was written of a round and of a step.
-use Rattle.std.proofs.Common.{◌≡◌, ◌≢◌, ℕ, zero, suc, ◌+◌, ◌<◌, ◌≤◌, Bool, true, false, List, [], ◌∷◌, length, Option, Some, None, IfSome, is_some, refl, sym, ap, ◌∙◌, subst, true≢false, arith, zero-add}
+-- Rounds, by what a machine keeps of them, and sets of events.
+use Rattle.std.proofs.Common.{◌≡◌, ◌≢◌, ℕ, zero, suc, ◌+◌, ◌<◌, ◌≤◌, Bool, true, false, List, [], ◌∷◌, length, Option, Some, None, IfSome, is_some, refl, sym, ap, ◌∙◌, true≢false, arith, zero-add}
 use Rattle.std.specs.Prelude.{if◌then◌else◌}
 use Rattle.rsml_syntax.specs.declared.syntax.Spec.{Spec}
 use Rattle.rsml_syntax.specs.declared.world.World.{World}
-use Rattle.rsml_meaning.specs.Instances.{events, globals_of}
+use Rattle.rsml_meaning.specs.Instances.{events}
 use Rattle.rsml_meaning.specs.Words.{Instance}
-use Rattle.rsml_meaning.specs.EventLines.{Message}
-use Rattle.rsml_meaning.specs.Runs.{latched}
-use Rattle.rsml_meaning.specs.Steps.{Round, IsStep}
-use Rattle.rsml_meaning.specs.Trace.{event_line, round_text}
+use Rattle.rsml_meaning.specs.Steps.{Round}
+use Rattle.elaborate.specs.Machine.{GroundMachine}
 use Rattle.micro_step.specs.declared.events.Events.{Events}
 use Rattle.micro_step.specs.Micros.{AreEvents, IsMicro, events_in}
 use Rattle.micro_step.specs.Numbers.{Kept, of_cases}
 use Rattle.micro_step.specs.Places.{items_where}
 use Rattle.micro_step.specs.Sets.{has}
-use Rattle.text_writer.specs.Writes.{WriterState, Writes}
-use Rattle.text_writer.proofs.WritingLemmas.{followed}
 use Rattle.trace_texts.specs.Rounds.{IsRoundOf}
 use Rattle.trace_texts.proofs.EventTexts.{none_at_all}
-use Rattle.reactions.specs.Stepping.{RoundIsWritten, StepIsWritten}
-use Rattle.reactions.specs.Reacting.{Reacts}
+use Rattle.reactions.specs.Stepping.{InWorld, LastRound, RoundIsDone, WasRound, last_of}
 
--- a micro-step of which the numbers were written is a round
-pub round_written : (s : Spec) (number : ℕ) (w w' : World) (present raised : Events) (k : Kept) (was is : WriterState) (old new : Option (List ℕ))
+-- a micro-step of which a machine kept the numbers is a round
+pub round_done : (s : Spec) (w w' : World) (present raised : Events) (k : Kept)
     → IsMicro s w present k.taken.items k.sent.items (of_cases k.values k.sent.items) w' raised
-    → ((r : Round) → IsRoundOf s present k r → Writes was old (round_text (globals_of s) (number, r)) is new)
-    → RoundIsWritten s number w (events_in s present) w' (events_in s raised) was old is new
-round_written s number w w' present raised k was is old new m put =
+    → RoundIsDone s w (events_in s present) (last_of s w present k) w' (events_in s raised)
+round_done s w w' present raised k m =
     let r : Round = record { world = w; present = events_in s present; taken = m.transitions_taken; sent = m.cases_sent } in
     record {
       round = r;
       is = record { world = refl; events = refl; micro = m.micro };
-      writes = put r (record { present_are = refl; taken_are = m.taken_are; sent_are = m.sent_are; values_are = m.values_are });
+      began = refl;
+      last_is = record { present_are = refl; taken_are = m.taken_are; sent_are = m.sent_are; values_are = m.values_are };
     }
 
--- a message that is latched, its event's line, and a step that is written are a reaction
-pub reaction_is : {first second third : WriterState} {old mid new : Option (List ℕ)} (s : Spec) (number : ℕ) (m : Message) (w w₁ w' : World) (present : List Instance)
-    → w₁ ≡ latched s w m → present ≡ m.receive.raised ∷ [] → Writes first old (event_line number m.receive.receive) second mid → StepIsWritten s w₁ present w' second mid third new
-    → Reacts s number m w w' first old third new
-reaction_is s number m w w₁ w' present is_latched is_raised line step = record {
-  reaction = record { receive = m.receive.receive; rounds = step.rounds; world = w' };
-  is = record {
-    receive = refl;
-    step = subst (λ es. IsStep s (latched s w m) es step.rounds w') is_raised (subst (λ v. IsStep s v present step.rounds w') is_latched step.is);
-  };
-  world = refl;
-  writes = followed line step.writes;
-}
+-- the last round, by what the machine kept of it
+pub last_round : (s : Spec) (w : World) (before : Events) (k : Kept) (r : Round) → WasRound s (last_of s w before k) r → IsRoundOf s before k r
+last_round s w before k r h = record { present_are = h.present_are; taken_are = h.taken_are; sent_are = h.sent_are; values_are = h.values_are }
+
+-- a machine in another world, with other present events
+pub in_world : (m : GroundMachine) (w w' : World) (present present' : List Instance) (l : LastRound) → w ≡ w' → present ≡ present'
+    → (let v : InWorld = record { machine = m; world = w; present = present; last = l } in v) ≡ record { machine = m; world = w'; present = present'; last = l }
+in_world m w w' present present' l e f = cc
 
 -- a set without a number has no events
 pub no_events : (s : Spec) (set : Events) → ((q : ℕ) → 0 ≤ q → has set q ≡ false) → events_in s set ≡ []
 no_events s set none = none_at_all (has set) (events s) none
 
-not_empty : {A : Type 0} (x : A) (xs : List A) → x ∷ xs ≡ [] → ⊥
+pub not_empty : {A : Type 0} (x : A) (xs : List A) → x ∷ xs ≡ [] → ⊥
 not_empty x xs h = cc
 
 found : {A : Type 0} (p : ℕ → Bool) (n k : ℕ) (xs : List A) → k < length xs → p (n + k) ≡ true → items_where p n xs ≡ [] → ⊥

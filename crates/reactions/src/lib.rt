@@ -1,7 +1,8 @@
-//! Steps of a certified specification, one event after another.
+//! A machine that runs: messages are latched into its world, and rounds are done and written.
 #![tactic(auto)]
 
 mod raising;
 mod running;
+mod waiting;
 
 pub use running::Running;

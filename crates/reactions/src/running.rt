@@ -1,81 +1,98 @@
-ghost use Rattle.std.specs.Prelude.{◌≡◌, ◌≢◌, ◌<◌, ℕ, suc, true, false, [], IfOk, IfSome, Some, length, slice_get};
+ghost use Rattle.std.specs.Prelude.{◌≡◌, ◌≢◌, ◌<◌, ◌≤◌, ◌∷◌, ℕ, suc, true, false, [], IfOk, IfSome, Some, length, slice_get};
 ghost use Rattle.rsml_meaning.specs.Words.{Each, Instance};
 ghost use Rattle.rsml_meaning.specs.Certified.{Certified};
 ghost use Rattle.rsml_meaning.specs.Chains.{Ends};
+ghost use Rattle.rsml_meaning.specs.Instances.{globals_of};
 ghost use Rattle.rsml_meaning.specs.Interfaces.{ReceiveInstance, receives};
 ghost use Rattle.rsml_meaning.specs.Runs.{first_world, latched};
-ghost use Rattle.rsml_meaning.specs.Trace.{event_line};
+ghost use Rattle.rsml_meaning.specs.Steps.{Round};
+ghost use Rattle.rsml_meaning.specs.Trace.{event_line, round_text};
 ghost use Rattle.interfaces.specs.Writes.{AreTyped};
-ghost use Rattle.micro_step.specs.Micros.{AreEvents, events_in};
+ghost use Rattle.micro_step.specs.Rows.{bits_of, member_rows};
 ghost use Rattle.text_writer.specs.Writes.{Writes};
-ghost use Rattle.reactions.specs.Reacting.{Reacts};
-ghost use Rattle.reactions.specs.Stepping.{IsExternal, RoundIsWritten, StepIsWritten};
+ghost use Rattle.reactions.specs.Stepping.{IsExternal, RoundIsDone, WasRound};
 
 use crate::raising::raised;
+use crate::waiting::Waiting;
 use elaborate::Machine;
-use micro_step::{Events, Scratch, micro};
+use ground_groups::Member;
+use micro_step::{Events, Scratch, enter_all, react};
 use rsml_syntax::{Checked, NoMemory, World};
 use std::alloc::Global;
 use std::marker::Model;
 use text_writer::Writer;
 use trace_texts::Traces;
 
-/// A machine that runs: its world, and what it keeps for its steps. Only `new` takes memory. Contracts see the machine and the
-/// world.
+/// A machine that runs: the events that are present, and what it keeps for its rounds. The world that it keeps is the one before the last
+/// round, so that it can be asked what was true there: what that round moved is entered when the next one begins, and so is the message
+/// that came since. Only `new` takes memory. Contracts see the machine, its world, in which all is entered, its present events and its last
+/// round.
 #[derive(Drop)]
 pub struct Running<'m, 'a> {
     machine: &'m Machine<'a>,
     traces: Traces<'m, 'a>,
     scratch: Scratch,
     world: World,
+    present: Events,
+    before: Events,
+    waiting: Waiting,
 }
 
 impl<'m, 'a> Model for Running<'m, 'a> {
     ghost use Rattle.std.specs.Coded.{codes};
     ghost use Rattle.rsml_syntax.specs.contracts.syntax.Body as bodies;
-    ghost use Rattle.reactions.specs.Stepping.{InWorld, AreKept};
+    ghost use Rattle.micro_step.specs.Micros.{events_in};
+    ghost use Rattle.reactions.specs.Stepping.{InWorld, AreKept, last_of, settled};
 
     ghost Value = { InWorld };
 
     ghost coded = { Prim.hlevel (codes, bodies.the_row.coded) };
 
-    ghost view = { λ r. record { machine = r.machine.now; world = r.world } };
+    ghost view = { λ r. record {
+      machine = r.machine.now;
+      world = settled r.machine.now r.world r.scratch.taken.items r.waiting.message;
+      present = events_in r.machine.now.base.spec r.present;
+      last = last_of r.machine.now.base.spec r.world r.before r.scratch;
+    } };
 
-    ghost invariant = { λ r. AreKept r.machine.now r.traces r.scratch r.world };
+    ghost invariant = { λ r. AreKept r.machine.now r.traces r.scratch r.world r.present r.before r.waiting };
 }
 
 impl<'m, 'a> Running<'m, 'a> {
-    /// A machine of this specification in its first world.
+    /// A machine of this specification in its first world, where no event is present, with room for messages of so many fields. The world
+    /// before the last round is the first one too.
     pub fn new(
         alloc: Global,
         checked: &'a Checked,
         machine: &'m Machine<'a>,
+        fields: usize,
     ) -> Result<Running<'m, 'a>, NoMemory>
-        requires { machine.now.base.spec ≡ checked.now }
+        requires machine { machine.now.base.spec ≡ checked.now }
+        requires fields { Each (λ x. length x.inputs ≤ fields) (receives checked.now) }
         ensures machine { IfOk result (λ r. r.machine ≡ machine.now) }
         ensures first { IfOk result (λ r. r.world ≡ first_world checked.now) }
+        ensures last { IfOk result (λ r. r.last.world ≡ first_world checked.now) }
+        ensures none { IfOk result (λ r. r.present ≡ []) }
     {
         let traces = Traces::new(alloc, checked, machine)?;
         let scratch = Scratch::new(alloc, machine)?;
         let world = machine.initial(alloc)?;
+        let present = Events::new();
+        let before = Events::new();
+        let waiting = Waiting::new(alloc, fields)?;
         Ok(Running {
             machine,
             traces,
             scratch,
             world,
+            present,
+            before,
+            waiting,
         })
     }
 
-    /// The machine.
-    fn machine(&self) -> &'m Machine<'a>
-        ensures { result.now ≡ self.now.machine }
-    {
-        let _ = &self.traces;
-        self.machine
-    }
-
     /// Writes the line of an event: its number, and the receive by which it came.
-    fn put_event<W: Writer>(&self, writer: &mut W, number: u64, receive: u32)
+    pub fn put_event<W: Writer>(&self, writer: &mut W, number: u64, receive: u32)
         requires { receive < length (receives self.now.machine.base.spec) }
         ensures { (x : ReceiveInstance) → slice_get (receives self.now.machine.base.spec) receive ≡ Some x
             → Writes (W.state writer.old) (W.text writer.old) (event_line number x.receive)
@@ -84,80 +101,101 @@ impl<'m, 'a> Running<'m, 'a> {
         self.traces.put_event(writer, number, receive);
     }
 
-    /// Writes the numbers of a message into the world.
-    fn latch(&mut self, receive: u32, numbers: &[i64])
-        requires there { receive < length (receives self.old.machine.base.spec) }
-        requires typed { IfSome (slice_get (receives self.old.machine.base.spec) receive) (λ x.
-            AreTyped self.old.machine.base.spec x.inputs numbers.now) }
-        ensures machine { self.new.machine ≡ self.old.machine }
-        ensures world { IfSome (slice_get (receives self.old.machine.base.spec) receive) (λ x.
-            self.new.world ≡ latched self.old.machine.base.spec self.old.world (record { receive = x; numbers = numbers.now })) }
+    /// Writes the last round with its number.
+    pub fn put_round<W: Writer>(&self, writer: &mut W, number: u32)
+        ensures { (r : Round) → WasRound self.now.machine.base.spec self.now.last r
+            → Writes (W.state writer.old) (W.text writer.old)
+            (round_text (globals_of self.now.machine.base.spec) (number, r)) (W.state writer.new) (W.text writer.new) }
     {
-        let machine = self.machine;
-        let interfaces = machine.interfaces();
-        interfaces.latch(&mut self.world, receive, numbers);
-    }
-
-    /// Does a round on the events of a set, and writes it with its number. Whether it leaves an event.
-    fn round<W: Writer>(&mut self, writer: &mut W, events: &mut Events, number: u32) -> bool
-        requires { AreEvents self.old.machine.base.spec events.old }
-        ensures machine { self.new.machine ≡ self.old.machine }
-        ensures written { RoundIsWritten self.old.machine.base.spec number
-            self.old.world (events_in self.old.machine.base.spec events.old)
-            self.new.world (events_in self.old.machine.base.spec events.new)
-            (W.state writer.old) (W.text writer.old) (W.state writer.new) (W.text writer.new) }
-        ensures longer { Certified self.old.machine.base.spec → (x : Instance) (n : ℕ)
-            → Each (Ends self.old.machine.base.spec x n) (events_in self.old.machine.base.spec events.old)
-            → Each (Ends self.old.machine.base.spec x (suc n)) (events_in self.old.machine.base.spec events.new) }
-        ensures some { result ≡ true → events_in self.old.machine.base.spec events.new ≢ [] }
-        ensures none { result ≡ false → events_in self.old.machine.base.spec events.new ≡ [] }
-        ensures events { AreEvents self.old.machine.base.spec events.new }
-    {
-        let machine = self.machine;
-        let present = *events;
-        micro(machine, &mut self.scratch, &mut self.world, events);
         self.traces
-            .put_round(writer, number, &present, &self.scratch);
-        let count = machine.events() as usize;
-        events.next_below(0, count).is_some()
+            .put_round(writer, number, &self.before, &self.scratch);
     }
 
-    /// Does the step on an external event, the one of a set: rounds until no event is left, each of which is written. There are no
-    /// more of them than there are events, as none loops.
-    fn step<W: Writer>(&mut self, writer: &mut W, mut events: Events)
-        requires certified { Certified self.old.machine.base.spec }
-        requires events { AreEvents self.old.machine.base.spec events }
-        requires external { IsExternal self.old.machine.base.spec (events_in self.old.machine.base.spec events) }
-        ensures machine { self.new.machine ≡ self.old.machine }
-        ensures step { StepIsWritten self.old.machine.base.spec
-            self.old.world (events_in self.old.machine.base.spec events) self.new.world
-            (W.state writer.old) (W.text writer.old) (W.state writer.new) (W.text writer.new) }
-    {
-        let machine = self.machine();
-        machine.law();
-        let count = machine.events();
-        for before in 0..count {
-            if !self.round(writer, &mut events, before + 1) {
-                return;
-            }
-        }
-    }
-
-    /// Does the step of one message, the numbers of a receive, and writes its lines: that of the event, with its number, and those
-    /// of each round.
-    pub fn react<W: Writer>(&mut self, writer: &mut W, number: u64, receive: u32, numbers: &[i64])
-        requires certified { Certified self.old.machine.base.spec }
+    /// Writes the numbers of a message into the world, and makes the event that its receive raises the one that is present.
+    pub fn latch(&mut self, receive: u32, numbers: &[i64])
+        requires none { self.old.present ≡ [] }
         requires there { receive < length (receives self.old.machine.base.spec) }
         requires typed { IfSome (slice_get (receives self.old.machine.base.spec) receive) (λ x.
             AreTyped self.old.machine.base.spec x.inputs numbers.now) }
         ensures machine { self.new.machine ≡ self.old.machine }
-        ensures reacts { IfSome (slice_get (receives self.old.machine.base.spec) receive) (λ x.
-            Reacts self.old.machine.base.spec number (record { receive = x; numbers = numbers.now }) self.old.world self.new.world
-            (W.state writer.old) (W.text writer.old) (W.state writer.new) (W.text writer.new)) }
+        ensures changes { IfSome (slice_get (receives self.old.machine.base.spec) receive) (λ x. self.new ≡ record self.old {
+          world = latched self.old.machine.base.spec self.old.world (record { receive = x; numbers = numbers.now });
+          present = x.raised ∷ [];
+        }) }
+        ensures external { IsExternal self.old.machine.base.spec self.new.present }
     {
-        self.latch(receive, numbers);
-        self.put_event(writer, number, receive);
-        let events = raised(self.machine(), receive);
-        self.step(writer, events);
+        let machine = self.machine;
+        let events = raised(machine, receive);
+        self.waiting.put(receive, numbers);
+        self.present = events;
+    }
+
+    /// Whether an event is present.
+    fn has_event(&self) -> bool
+        ensures some { result ≡ true → self.now.present ≢ [] }
+        ensures none { result ≡ false → self.now.present ≡ [] }
+    {
+        let _ = &self.world;
+        let machine = self.machine;
+        let count = machine.events() as usize;
+        self.present.next_below(0, count).is_some()
+    }
+
+    /// Enters what the last round moved and the message that came since, and does a micro-step on the present events, but for its moves.
+    fn advance(&mut self)
+        ensures machine { self.new.machine ≡ self.old.machine }
+        ensures done { RoundIsDone self.old.machine.base.spec self.old.world self.old.present
+            self.new.last self.new.world self.new.present }
+        ensures longer { Certified self.old.machine.base.spec → (x : Instance) (n : ℕ)
+            → Each (Ends self.old.machine.base.spec x n) self.old.present
+            → Each (Ends self.old.machine.base.spec x (suc n)) self.new.present }
+    {
+        let machine = self.machine;
+        enter_all(machine, &mut self.world.choices, self.scratch.taken());
+        self.waiting.latch(machine.interfaces(), &mut self.world);
+        self.before = self.present;
+        react(machine, &mut self.scratch, &self.world, &mut self.present);
+    }
+
+    /// Does a round: a micro-step on the present events. Whether one was present; where none was, nothing changes.
+    pub fn round(&mut self) -> bool
+        ensures none { result ≡ false → (self.old.present ≡ []) × (self.new ≡ self.old) }
+        ensures some { result ≡ true → self.old.present ≢ [] }
+        ensures done { result ≡ true → RoundIsDone self.old.machine.base.spec self.old.world self.old.present
+            self.new.last self.new.world self.new.present }
+        ensures longer { result ≡ true → Certified self.old.machine.base.spec → (x : Instance) (n : ℕ)
+            → Each (Ends self.old.machine.base.spec x n) self.old.present
+            → Each (Ends self.old.machine.base.spec x (suc n)) self.new.present }
+        ensures machine { self.new.machine ≡ self.old.machine }
+    {
+        if !self.has_event() {
+            return false;
+        }
+        self.advance();
+        true
+    }
+
+    /// The numbers of the transitions that the last round took, rising.
+    pub fn taken(&self) -> &[u32]
+        ensures { result.now ≡ self.now.last.taken }
+    {
+        self.scratch.taken()
+    }
+
+    /// The numbers of the cases of sends that were enabled in the last round, rising.
+    pub fn sent(&self) -> &[u32]
+        ensures { result.now ≡ self.now.last.sent }
+    {
+        self.scratch.sent()
+    }
+
+    /// The truths of the rows of a member's table in the world before the last round, the first world if there was none: bit k, from 0,
+    /// is that of row k + 1. 0 for a guard `always`, and where there is no such member. It takes no memory.
+    pub fn rows(&mut self, member: Member) -> u64
+        ensures rows { result ≡ bits_of (member_rows self.old.machine.base.spec self.old.last.world member) }
+        ensures unchanged { self.new ≡ self.old }
+    {
+        let _ = &self.before;
+        self.scratch.rows(self.machine, &self.world, member)
     }
 }

@@ -1,139 +1,145 @@
--- A simulation between two lines, and where it ends.
-use Rattle.std.proofs.Common.{◌≡◌, ◌≢◌, ℕ, ◌+◌, ◌≤◌, true, false, List, [], ◌∷◌, ◌++◌, length, take, drop, Option, Some, None, IfSome, refl, sym, ap, ◌∙◌, arith, subst, length-append, length-take, length-drop}
+-- A simulation between two events, and where it ends.
+use Rattle.std.proofs.Common.{◌≡◌, ℕ, ◌+◌, ◌≤◌, true, List, [], ◌∷◌, ◌++◌, length, take, drop, Option, Some, None, refl, sym, ap, ◌∙◌, arith, subst, append-nil, length-append, length-take, length-drop}
 use Rattle.rsml_syntax.specs.declared.syntax.Spec.{Spec}
 use Rattle.rsml_syntax.specs.declared.world.World.{World}
+use Rattle.rsml_meaning.specs.Words.{Instance}
 use Rattle.rsml_meaning.specs.Certified.{Certified}
-use Rattle.rsml_meaning.specs.EventLines.{Bytes, Message, breaks}
-use Rattle.rsml_meaning.specs.EventFiles.{Limits, Line, FileFault, long_line, broken_line, long_file, messages, is_long, is_cut, fault_at, lines_before}
+use Rattle.rsml_meaning.specs.EventLines.{Bytes, Message}
+use Rattle.rsml_meaning.specs.EventFiles.{Line, FileFault, long_line, broken_line, long_file, messages, lines_of, lines_before, sound_lines}
+use Rattle.rsml_meaning.specs.Instances.{globals_of}
 use Rattle.rsml_meaning.specs.Laws.{WellFormedHasNoFault, FirstFaultIsOfLine}
-use Rattle.rsml_meaning.specs.Runs.{first_world, IsRunFrom, IsRun}
-use Rattle.rsml_meaning.specs.Trace.{trace_text}
+use Rattle.rsml_meaning.specs.Runs.{Reaction, first_world, latched, IsReaction, IsRunFrom, IsRun}
+use Rattle.rsml_meaning.specs.Steps.{IsStep}
+use Rattle.rsml_meaning.specs.Trace.{reaction_text, trace_text}
 use Rattle.rsml_scopes.specs.Scoped.{WellScoped}
 use Rattle.one_run.specs.Laws.{LinesHaveOneRun}
 use Rattle.text_writer.specs.Writes.{WriterState}
-use Rattle.event_file.specs.Reading.{Reading, Fits, Answers, GivesLine, line_at, lines_ahead, new_reading, next_at, next_of, taken, IsRight}
-use Rattle.event_file.specs.declared.next.Next.{Next}
-use Rattle.event_file.specs.declared.next.Next.TheVariants as next
+use Rattle.text_writer.proofs.WritingLemmas.{alike}
+use Rattle.event_file.specs.Reading.{Reading, Fits, lines_ahead, taken}
 use Rattle.event_file.proofs.Splits.{split}
-use Rattle.event_file.proofs.CallerLemmas.{none_ahead, all_ahead, end_is, cut_is, line_is}
-use Rattle.event_lines.specs.declared.line_fault.LineFault.{LineFault}
 use Rattle.event_lines.specs.Told.{rule_of}
 use Rattle.buffered_sink.specs.Buffering.{Flushes}
 use Rattle.simulator.specs.declared.sim_end.SimEnd.{SimEnd}
 use Rattle.simulator.specs.declared.sim_end.SimEnd.TheVariants as end
+use Rattle.simulator.specs.declared.upcoming.Upcoming.{Upcoming}
+use Rattle.simulator.specs.declared.upcoming.Upcoming.TheVariants as upcoming
 use Rattle.simulator.specs.Outputs.{Output, done, faulty, ReadOutput, end_of, fault_line}
+use Rattle.simulator.specs.Simulation.{Simulation, IsNew}
+use Rattle.simulator.specs.Fitting.{FitsFile, EndsWith, StopsAt, lines_read}
+use Rattle.simulator.specs.helpers.Reacting.{EventIsWritten}
 use Rattle.simulator.specs.helpers.Series.{world_after, texts_from}
-use Rattle.simulator.specs.helpers.Turns.{Turning, no_turn, said, rule_in, Follows}
-use Rattle.simulator.specs.helpers.Progress.{Stands, AreSound, Followed, Stops, end_at, last_line}
+use Rattle.simulator.specs.helpers.Progress.{Stands, AreSound, Followed, Stops, end_by, last_line}
 use Rattle.simulator.proofs.SeriesLemmas.{world_after_both, trace_both}
-use Rattle.simulator.proofs.RunLemmas.{more_lines}
-use Rattle.simulator.proofs.LineLemmas.{long_fault, cut_fault, rule_fault, no_fault, rule_of_said, messages_of_said, sound_whole, fault_is_first, sound_before, ahead_of_next, sound_next}
+use Rattle.simulator.proofs.RunLemmas.{run_both}
 use Rattle.simulator.proofs.StandsLemmas.{nothing_stands, one_more_stands, same_stands}
 use Rattle.simulator.proofs.OutputLemmas.{begins_output, fault_again}
+use Rattle.simulator.proofs.FittingLemmas.{untold_sound, unanswered_sound}
+use Rattle.simulator.proofs.AnsweringLemmas.{new_fits_file, fits_rest}
 
--- Between lines.
+-- Between events.
 
 -- nothing was read
-pub starts : (s : Spec) (limits : Limits) (content : Bytes) (state : WriterState) (text : Option (List ℕ)) → state.whole ≡ true → Fits content (new_reading limits)
-    → Followed s limits content (new_reading limits) (no_turn s) text state text
-starts s limits content state text whole fits = record {
-  spec = refl;
-  limited = refl;
-  fits = fits;
-  sound = subst (AreSound s limits content) (sym (none_ahead content)) tt;
-  run = [];
-  is_run = subst (λ (ls : List Line). IsRun s ls []) (sym (none_ahead content)) tt;
-  after = refl;
-  count = refl;
-  stands = nothing_stands state text whole;
-}
+pub starts : (content : Bytes) (m : Simulation) (state : WriterState) (text : Option (List ℕ)) → state.whole ≡ true → IsNew m → Followed content m text state text
+starts content m state text whole new =
+    let fits = new_fits_file content m new in
+    record {
+      fits = fits;
+      run = [];
+      is_run = none (messages m.spec (lines_read content m)) (sym fits.counted ∙ new.uncounted);
+      after = sym new.first;
+      count = sym new.uncounted;
+      stands = nothing_stands state text whole;
+    }
+  where
+    none : (ms : List Message) → length ms ≡ 0 → IsRunFrom m.spec (first_world m.spec) ms []
+    none [] e = tt
+    none (x ∷ ms) e = absurd (let no : length (x ∷ ms) ≡ 0 → ⊥ = λ h. omega (arith, h) in no e)
 
 -- what waited was written
-pub flushed : (s : Spec) (limits : Limits) (content : Bytes) (r : Reading) (t : Turning) (first second : WriterState) (old mid new : Option (List ℕ)) → Flushes first mid second new
-    → Followed s limits content r t old first mid → Followed s limits content r t old second new
-flushed s limits content r t first second old mid new k h =
-    record {
-      spec = h.spec;
-      limited = h.limited;
-      fits = h.fits;
-      sound = h.sound;
-      run = h.run;
-      is_run = h.is_run;
-      after = h.after;
-      count = h.count;
-      stands = same_stands first second old mid new (trace_text s h.run) k.text k.before h.stands;
+pub flushed : (content : Bytes) (m : Simulation) (first second : WriterState) (old mid new : Option (List ℕ)) → Flushes first mid second new
+    → Followed content m old first mid → Followed content m old second new
+flushed content m first second old mid new k h = record {
+  fits = h.fits;
+  run = h.run;
+  is_run = h.is_run;
+  after = h.after;
+  count = h.count;
+  stands = same_stands first second old mid new (trace_text m.spec h.run) k.text k.before h.stands;
+}
+
+-- An event came, and was written with its rounds.
+
+module _ (content : Bytes) (m m' m'' : Simulation) (k : ℕ) (first second : WriterState) (old mid new : Option (List ℕ)) (h : Followed content m old first mid)
+    (fits : FitsFile content m') (message : Message)
+    (next : messages m.spec (lines_read content m') ≡ messages m.spec (lines_read content m) ++ (message ∷ []))
+    (changes : m' ≡ record m { reading = m'.reading; world = latched m.spec m.world message; present = message.receive.raised ∷ []; events = m.events + 1 })
+    (rest : m'' ≡ record m' { world = m''.world; present = m''.present; last = m''.last })
+    (w : EventIsWritten m'.spec m'.events message.receive m'.world m'.present m''.world first mid second new)
+  where
+    same : m'.spec ≡ m.spec
+    same = ap (λ (z : Simulation). z.spec) changes
+
+    spec : m''.spec ≡ m.spec
+    spec = ap (λ (z : Simulation). z.spec) rest ∙ same
+
+    latched_is : m'.world ≡ latched m.spec m.world message
+    latched_is = ap (λ (z : Simulation). z.world) changes
+
+    present_is : m'.present ≡ message.receive.raised ∷ []
+    present_is = ap (λ (z : Simulation). z.present) changes
+
+    number_is : m'.events ≡ m.events + 1
+    number_is = ap (λ (z : Simulation). z.events) changes
+
+    abbrev reaction : Reaction
+    reaction = record { receive = message.receive.receive; rounds = w.rounds; world = m''.world }
+
+    reacts : IsReaction m.spec m.world message reaction
+    reacts = record {
+      receive = refl;
+      step =
+          subst (λ (s : Spec). IsStep s (latched m.spec m.world message) (message.receive.raised ∷ []) w.rounds m''.world) same
+          (subst (λ (v : World). IsStep m'.spec v (message.receive.raised ∷ []) w.rounds m''.world) latched_is
+          (subst (λ (es : List Instance). IsStep m'.spec m'.world es w.rounds m''.world) present_is w.is));
     }
 
--- The reader has a line.
-record Given (s : Spec) (limits : Limits) (content : Bytes) (at : ℕ) (r : Reading) : Type 0 where
-  line : Line
-  there : line_at content at ≡ Some line
-  number : r.number ≡ line.number
-  not_long : is_long limits line ≡ false
-  not_cut : is_cut limits (length content) line ≡ false
-  gives : GivesLine content at r
+    more : IsRunFrom m.spec (first_world m.spec) (messages m.spec (lines_read content m')) (h.run ++ (reaction ∷ []))
+    more =
+        subst (λ (ms : List Message). IsRunFrom m.spec (first_world m.spec) ms (h.run ++ (reaction ∷ []))) (sym next)
+        (run_both m.spec (first_world m.spec) (messages m.spec (lines_read content m)) (message ∷ []) h.run (reaction ∷ []) h.is_run
+        (subst (λ (v : World). IsReaction m.spec v message reaction) (sym h.after) reacts, tt))
 
-not_refused : next.Line ≡ next.ReadFault → ⊥
-not_refused h = cc
+    text : trace_text m.spec h.run ++ reaction_text (globals_of m.spec) (m.events + 1, reaction) ≡ trace_text m.spec (h.run ++ (reaction ∷ []))
+    text =
+        ap (λ (t : Bytes). trace_text m.spec h.run ++ t) (sym (append-nil (reaction_text (globals_of m.spec) (m.events + 1, reaction))))
+        ∙ ap (λ (n : ℕ). trace_text m.spec h.run ++ texts_from m.spec (n + 1) (reaction ∷ [])) (sym h.count) ∙ sym (trace_both m.spec h.run (reaction ∷ []))
 
-module _ (s : Spec) (limits : Limits) (content : Bytes) (r r' : Reading) (t : Turning) (first : WriterState) (old mid : Option (List ℕ)) (h : Followed s limits content r t old first mid)
-    (a : Answers content r next.Line r')
-  where
-    abbrev gives : GivesLine content r.at r'
-    gives = a.line refl
+    written : Stands old (trace_text m.spec (h.run ++ (reaction ∷ []))) second new
+    written =
+        subst (λ (bytes : Bytes). Stands old bytes second new) text
+        (one_more_stands first second old mid new (trace_text m.spec h.run) (reaction_text (globals_of m.spec) (m.events + 1, reaction)) h.stands
+        (alike (ap (λ (s : Spec). reaction_text (globals_of s) (m'.events, reaction)) same ∙ ap (λ (n : ℕ). reaction_text (globals_of m.spec) (n, reaction)) number_is) w.writes))
 
-    tests : (is_long limits gives.line ≡ false) × (is_cut limits (length content) gives.line ≡ false)
-    tests =
-        line_is limits (length content) gives.line
-        (sym (a.comes not_refused ∙ ap (λ (z : Limits). next_at z content r.at) h.limited ∙ ap (next_of limits (length content)) gives.there))
+    lines_same : lines_read content m'' ≡ lines_read content m'
+    lines_same = ap (λ (z : Simulation). lines_read content z) rest
 
-    module _ (t' : Turning) (second : WriterState) (new : Option (List ℕ)) (f : Follows s (said s r'.line) t t' first mid second new) (spec : t'.spec ≡ t.spec) (same : r'.limits ≡ r.limits) where
-      sound_line : fault_at s limits (length content) gives.line ≡ None
-      sound_line = no_fault s limits (length content) gives.line tests.0 tests.1 (rule_of_said s gives.line r'.line gives.bytes ∙ f.sound)
+    pub followed_on : Followed content m'' old second new
+    followed_on = record {
+      fits = fits_rest content m' m'' rest fits;
+      run = h.run ++ (reaction ∷ []);
+      is_run =
+          subst (λ (s : Spec). IsRunFrom s (first_world s) (messages s (lines_read content m'')) (h.run ++ (reaction ∷ []))) (sym spec)
+          (subst (λ (ls : List Line). IsRunFrom m.spec (first_world m.spec) (messages m.spec ls) (h.run ++ (reaction ∷ []))) (sym lines_same) more);
+      after =
+          ap (λ (s : Spec). world_after (first_world s) (h.run ++ (reaction ∷ []))) spec ∙ world_after_both (first_world m.spec) h.run (reaction ∷ []);
+      count =
+          let events = ap (λ (z : Simulation). z.events) rest in
+          let count = h.count in
+          omega (arith, events, number_is, count, length-append h.run (reaction ∷ []));
+      stands = subst (λ (s : Spec). Stands old (trace_text s (h.run ++ (reaction ∷ []))) second new) (sym spec) written;
+    }
 
-      next_run : IsRunFrom s (world_after (first_world s) h.run) (messages s (gives.line ∷ [])) f.run
-      next_run =
-          subst (λ (w : World). IsRunFrom s w (messages s (gives.line ∷ [])) f.run) (sym h.after)
-          (subst (λ (ms : List Message). IsRunFrom s t.world ms f.run) (sym (messages_of_said s gives.line r'.line gives.bytes)) f.is_run)
-
-      ahead : lines_ahead r'.at content ≡ lines_ahead r.at content ++ (gives.line ∷ [])
-      ahead = ahead_of_next s limits content r.at h.fits.begins h.sound gives.line r'.at gives.there gives.after
-
-      text : trace_text s h.run ++ texts_from s (t.events + 1) f.run ≡ trace_text s (h.run ++ f.run)
-      text = ap (λ (n : ℕ). trace_text s h.run ++ texts_from s (n + 1) f.run) (sym h.count) ∙ sym (trace_both s h.run f.run)
-
-      -- after a line that was followed
-      pub followed_on : Followed s limits content r' t' old second new
-      followed_on = record {
-        spec = spec ∙ h.spec;
-        limited = same ∙ h.limited;
-        fits = a.fits;
-        sound = sound_next s limits content r.at h.fits.begins h.sound gives.line r'.at gives.there gives.after sound_line;
-        run = h.run ++ f.run;
-        is_run = subst (λ (ls : List Line). IsRun s ls (h.run ++ f.run)) (sym ahead) (more_lines s (lines_ahead r.at content) (gives.line ∷ []) h.run f.run h.is_run next_run);
-        after = world_after_both (first_world s) h.run f.run ∙ ap (λ (w : World). world_after w f.run) h.after ∙ f.after;
-        count = let a' = h.count in let b' = f.count in omega (arith, length-append h.run f.run, a', b');
-        stands = subst (λ (bytes : List ℕ). Stands old bytes second new) text (one_more_stands first second old mid new (trace_text s h.run) (texts_from s (t.events + 1) f.run) h.stands f.writes);
-      }
-
-    -- A line that breaks a rule.
-    module _ (well_formed : FirstFaultIsOfLine) (k : ℕ) (fault : LineFault) (said_is : said s r'.line ≡ Some (breaks (rule_of fault))) where
-      broken : fault_at s limits (length content) gives.line ≡ Some (broken_line gives.line.number (rule_of fault))
-      broken = rule_fault s limits (length content) gives.line (rule_of fault) tests.0 tests.1 (rule_of_said s gives.line r'.line gives.bytes ∙ ap rule_in said_is)
-
-      pub stops_at_broken : Stops s limits content k (end.LineFault r'.number fault) old first mid
-      stops_at_broken = record {
-        trace = trace_text s h.run;
-        stands = h.stands;
-        ends =
-            faulty (broken_line gives.line.number (rule_of fault)) h.run
-            (fault_is_first s limits content r.at h.fits.begins h.sound gives.line gives.there (broken_line gives.line.number (rule_of fault)) broken well_formed)
-            (subst (λ (ls : List Line). IsRun s ls h.run) (sym (sound_before s limits content r.at h.fits.begins h.sound gives.line gives.there (broken_line gives.line.number (rule_of fault)) broken)) h.is_run)
-            (ap (λ (n : ℕ). end.LineFault n fault) gives.number ∙ ap (λ (x : LineFault). end.LineFault gives.line.number x) (sym (fault_again fault)))
-            (ap (λ (n : ℕ). trace_text s h.run ++ fault_line (broken_line n (rule_of fault))) gives.number);
-      }
-
--- Where there is no line.
+-- Where there is no event.
 
 taken_within : (content : Bytes) (r : Reading) → Fits content r → taken r ≤ length content
 taken_within content r h =
@@ -141,64 +147,56 @@ taken_within content r h =
     let held : length r.held ≡ length (take (length r.held) (drop r.at content)) = ap length h.holds in
     omega (arith, at_within, held, length-take (length r.held) (drop r.at content), length-drop r.at content)
 
-module _ (well_formed : WellFormedHasNoFault) (first_is : FirstFaultIsOfLine) (s : Spec) (limits : Limits) (content : Bytes) (r r' : Reading) (t : Turning) (state : WriterState) (old new : Option (List ℕ))
-    (h : Followed s limits content r t old state new) (same_limits : r'.limits ≡ r.limits) (at_same : r'.at ≡ r.at)
-  where
-    abbrev trace : Bytes
-    trace = trace_text s h.run
+module _ (content : Bytes) (m : Simulation) (r : Reading) (state : WriterState) (old new : Option (List ℕ)) (h : Followed content m old state new) where
+  abbrev answered : Upcoming → Simulation
+  answered answer = record m { reading = r; answered = Some answer }
 
-    -- the first fault is that of the line there
-    at_fault : (line : Line) → line_at content r.at ≡ Some line → (f : FileFault) → fault_at s limits (length content) line ≡ Some f → (e : SimEnd) → e ≡ end_of f → Output s limits content e (trace ++ fault_line f)
-    at_fault line there f is e same =
-        faulty f h.run (fault_is_first s limits content r.at h.fits.begins h.sound line there f is first_is)
-        (subst (λ (ls : List Line). IsRun s ls h.run) (sym (sound_before s limits content r.at h.fits.begins h.sound line there f is)) h.is_run) same refl
+  abbrev trace : Bytes
+  trace = trace_text m.spec h.run
 
-    comes_there : (n : Next) → n ≡ next_at r.limits content r.at → next_of limits (length content) (line_at content r.at) ≡ n
-    comes_there n e = sym (e ∙ ap (λ (z : Limits). next_at z content r.at) h.limited)
+  -- the answer was given on a reader whose lines tell the same messages
+  module _ (same : messages m.spec (lines_ahead r.at content) ≡ messages m.spec (lines_read content m)) where
+    run_of : (ls : List Line) → messages m.spec (lines_ahead r.at content) ≡ messages m.spec ls → IsRun m.spec ls h.run
+    run_of ls e = subst (λ (ms : List Message). IsRunFrom m.spec (first_world m.spec) ms h.run) (sym same ∙ e) h.is_run
 
-    at_end : next.End ≡ next_at r.limits content r.at → Output s limits content (end.Ended t.events) (trace ++ last_line (end.Ended t.events))
-    at_end comes =
-        let none = end_is limits (length content) (line_at content r.at) (comes_there next.End comes) in
-        done h.run (sound_whole s limits content r.at h.fits.begins h.sound well_formed none)
-        (subst (λ (ls : List Line). IsRun s ls h.run) (all_ahead content r.at h.fits.begins none) h.is_run)
-        (ap end.Ended (sym h.count)) (ap (λ (n : ℕ). trace ++ last_line (end.Ended n)) (sym h.count))
+    at_fault : (answer : Upcoming) (f : FileFault) → StopsAt content (answered answer) f → (e : SimEnd) → e ≡ end_of f → Output m.spec m.limits content e (trace ++ fault_line f)
+    at_fault answer f stops e is = faulty f h.run stops.first (run_of (sound_lines m.spec m.limits content) stops.came) is refl
 
-    at_long : (a : Answers content r next.LineTooLong r') → Output s limits content (end.LineTooLong r'.number) (trace ++ last_line (end.LineTooLong r'.number))
-    at_long a =
-        let found = a.long refl in
-        let long : is_long limits found.line ≡ true = subst (λ (z : Limits). is_long z found.line ≡ true) (same_limits ∙ h.limited) found.long in
-        subst (λ (n : ℕ). Output s limits content (end.LineTooLong n) (trace ++ last_line (end.LineTooLong n))) (sym found.number)
-        (at_fault found.line found.there (long_line found.line.number) (long_fault s limits (length content) found.line long) (end.LineTooLong found.line.number) refl)
+    at_end : (n : ℕ) → EndsWith content (answered (upcoming.Ended n)) n → Output m.spec m.limits content (end.Ended n) (trace ++ last_line (end.Ended n))
+    at_end n ends =
+        let many : n ≡ length h.run = ends.count ∙ sym h.count in
+        done h.run ends.formed (run_of (lines_of content) (ap (messages m.spec) ends.all)) (ap end.Ended many) (ap (λ (k : ℕ). trace ++ last_line (end.Ended k)) many)
 
-    at_cut : next.TooLong ≡ next_at r.limits content r.at → Output s limits content end.TooLong (trace ++ last_line end.TooLong)
-    at_cut comes =
-        let cut = cut_is limits (length content) (line_at content r.at) (comes_there next.TooLong comes) in
-        at_fault cut.0 cut.1 long_file (cut_fault s limits (length content) cut.0 cut.2 cut.3) end.TooLong refl
-
-    at_read : (a : Answers content r next.ReadFault r') → r'.settled ≡ Some next.ReadFault → ReadOutput s limits content (taken r') (trace ++ last_line end.ReadFault)
-    at_read a settled =
-        let all : lines_before (taken r') content ≡ lines_ahead r.at content = right_of a.fits settled ∙ ap (λ (n : ℕ). lines_ahead n content) at_same in
+    at_read : FitsFile content (answered upcoming.ReadFault) → ReadOutput m.spec m.limits content (taken r) (trace ++ last_line end.ReadFault)
+    at_read fits =
+        let all : lines_before (taken r) content ≡ lines_ahead r.at content = fits.right in
+        let sound : AreSound m.spec m.limits content (lines_ahead r.at content) = untold_sound content (answered upcoming.ReadFault) refl fits in
         record {
-          within = taken_within content r' a.fits;
-          sound = subst (λ (ls : List Line). AreSound s limits content ls) (sym all) h.sound;
+          within = taken_within content r fits.reader;
+          sound = subst (AreSound m.spec m.limits content) (sym all) sound;
           run = h.run;
-          is_run = subst (λ (ls : List Line). IsRun s ls h.run) (sym all) h.is_run;
+          is_run = run_of (lines_before (taken r) content) (ap (messages m.spec) (sym all));
           text = refl;
         }
-      where
-        right_of : Fits content r' → r'.settled ≡ Some next.ReadFault → lines_before (taken r') content ≡ lines_ahead r'.at content
-        right_of f e = let told : IfSome (Some next.ReadFault) (IsRight content r') = subst (λ (o : Option Next). IfSome o (IsRight content r')) e f.right in told
 
     -- it stops so
-    pub stops_there : (n : Next) → n ≢ next.Line → Answers content r n r' → r'.settled ≡ Some n → Stops s limits content (taken r') (end_at n t.events r'.number) old state new
-    stops_there next.Line ne a settled = absurd (ne refl)
-    stops_there next.End ne a settled = record { trace = trace; stands = h.stands; ends = at_end (a.comes (let no : next.End ≡ next.ReadFault → ⊥ = λ e. cc in no)) }
-    stops_there next.ReadFault ne a settled = record { trace = trace; stands = h.stands; ends = at_read a settled }
-    stops_there next.LineTooLong ne a settled = record { trace = trace; stands = h.stands; ends = at_long a }
-    stops_there next.TooLong ne a settled = record { trace = trace; stands = h.stands; ends = at_cut (a.comes (let no : next.TooLong ≡ next.ReadFault → ⊥ = λ e. cc in no)) }
+    pub stops_there : (answer : Upcoming) → FitsFile content (answered answer) → Stops m.spec m.limits content (taken r) (end_by answer) old state new
+    stops_there (upcoming.Event k) fits = absurd (let no : ⊥ = fits.right in no)
+    stops_there (upcoming.Ended n) fits = record { trace = trace; stands = h.stands; ends = at_end n fits.right }
+    stops_there (upcoming.LineFault n fault) fits = record {
+      trace = trace;
+      stands = h.stands;
+      ends = at_fault (upcoming.LineFault n fault) (broken_line n (rule_of fault)) fits.right (end.LineFault n fault) (ap (end.LineFault n) (sym (fault_again fault)));
+    }
+    stops_there (upcoming.LineTooLong n) fits = record { trace = trace; stands = h.stands; ends = at_fault (upcoming.LineTooLong n) (long_line n) fits.right (end.LineTooLong n) refl }
+    stops_there upcoming.ReadFault fits = record { trace = trace; stands = h.stands; ends = at_read fits }
+    stops_there upcoming.TooLong fits = record { trace = trace; stands = h.stands; ends = at_fault upcoming.TooLong long_file fits.right end.TooLong refl }
 
 -- a write was refused
-pub stops_refused : LinesHaveOneRun → WellFormedHasNoFault → FirstFaultIsOfLine → (s : Spec) → WellScoped s → Certified s → (limits : Limits) (content : Bytes) (r : Reading) (t : Turning) (k : ℕ) (state : WriterState) (old new : Option (List ℕ))
-    → Followed s limits content r t old state new → Stops s limits content k end.WriteFault old state new
-stops_refused one_run well_formed first_is s scoped certified limits content r t k state old new h =
-    record { trace = trace_text s h.run; stands = h.stands; ends = begins_output one_run well_formed first_is s scoped certified limits content r.at h.run h.sound h.is_run }
+pub stops_refused : LinesHaveOneRun → WellFormedHasNoFault → FirstFaultIsOfLine → (content : Bytes) (m : Simulation) → WellScoped m.spec → Certified m.spec → m.answered ≡ None
+    → (k : ℕ) (state : WriterState) (old new : Option (List ℕ)) → Followed content m old state new → Stops m.spec m.limits content k end.WriteFault old state new
+stops_refused one_run well_formed first_is content m scoped certified none k state old new h = record {
+  trace = trace_text m.spec h.run;
+  stands = h.stands;
+  ends = begins_output one_run well_formed first_is m.spec scoped certified m.limits content m.reading.at h.run (unanswered_sound content m none h.fits) h.is_run;
+}

@@ -3,7 +3,11 @@ pub mod RunLemmas
 pub mod LineLemmas
 pub mod StandsLemmas
 pub mod OutputLemmas
+pub mod TurnLemmas
+pub mod PassingLemmas
+pub mod FittingLemmas
+pub mod AnsweringLemmas
+pub mod RoundLemmas
 pub mod FollowedLemmas
 pub mod LoopLemmas
-pub mod TurnLemmas
 pub mod EndLemmas

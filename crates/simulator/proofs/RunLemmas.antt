@@ -21,7 +21,7 @@ run_both s w (m ∷ ms) ns (r ∷ rs) qs h k = (h.0, run_both s r.world ms ns rs
 run_both s w [] ns (r ∷ rs) qs h k = elim h [ ]
 run_both s w (m ∷ ms) ns [] qs h k = elim h [ ]
 
-messages_both : (s : Spec) (ls ms : List Line) → messages s (ls ++ ms) ≡ messages s ls ++ messages s ms
+pub messages_both : (s : Spec) (ls ms : List Line) → messages s (ls ++ ms) ≡ messages s ls ++ messages s ms
 messages_both s ls ms = filter_map-append (message s) ls ms
 
 -- a run of lines, and a run of the events that more of them tell

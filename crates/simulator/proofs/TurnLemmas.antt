@@ -1,22 +1,28 @@
--- What a line comes to that is followed.
-use Rattle.std.proofs.Common.{◌≡◌, ℕ, ◌+◌, ◌<◌, ◌≤◌, Bool, true, false, List, [], ◌∷◌, length, take, slice_get, Option, Some, None, IfSome, ℤ, refl, sym, ap, ◌∙◌, arith, subst, append-nil, length-take}
+-- What a line comes to that is taken.
+use Rattle.std.proofs.Common.{◌≡◌, ℕ, ◌+◌, ◌<◌, ◌≤◌, Bool, true, false, List, [], ◌∷◌, length, take, slice_get, Option, Some, None, IfSome, ℤ, sym, ap, ◌∙◌, arith, subst, length-take}
 use Rattle.std.specs.Prelude.{if◌then◌else◌}
 use Rattle.std.proofs.lemmas.Option.{slice_get_within}
 use Rattle.rsml_syntax.specs.declared.syntax.Spec.{Spec}
 use Rattle.rsml_syntax.specs.declared.world.World.{World}
-use Rattle.rsml_meaning.specs.EventLines.{Bytes, is_skipped, Message, Outcome, breaks, tells, read_line, LineRule}
-use Rattle.rsml_meaning.specs.Instances.{globals_of}
+use Rattle.rsml_meaning.specs.EventLines.{Bytes, is_skipped, Message, Outcome, breaks, read_line, LineRule}
+use Rattle.rsml_meaning.specs.Words.{Instance}
 use Rattle.rsml_meaning.specs.Interfaces.{ReceiveInstance, receives}
-use Rattle.rsml_meaning.specs.Trace.{reaction_text}
+use Rattle.rsml_meaning.specs.Runs.{latched}
 use Rattle.state_tree.proofs.Lists.{within_get}
 use Rattle.interfaces.specs.Writes.{AreTyped}
-use Rattle.text_writer.specs.Writes.{WriterState}
-use Rattle.text_writer.proofs.WritingLemmas.{still, alike}
 use Rattle.event_lines.specs.declared.received.Received.{Received}
 use Rattle.event_lines.specs.Told.{IsReceived}
-use Rattle.reactions.specs.Reacting.{Reacts}
-use Rattle.simulator.specs.helpers.Turns.{Turning, said, message_of, Follows}
-use Rattle.simulator.specs.helpers.Kept.{HoldsNumbers}
+use Rattle.reactions.specs.Stepping.{InWorld, LastRound}
+use Rattle.simulator.specs.helpers.Turns.{Turning, Takes, said, message_of}
+use Rattle.simulator.specs.helpers.Kept.{HoldsNumbers, Latches}
+
+-- what is seen of a machine that takes lines
+abbrev pub turning : Spec → World → List Instance → ℕ → LastRound → Turning
+turning s w present n last = record { spec = s; world = w; present = present; events = n; last = last }
+
+turning_is : (s : Spec) (w w' : World) (present present' : List Instance) (n : ℕ) (last last' : LastRound) → w ≡ w' → present ≡ present' → last ≡ last'
+    → turning s w present n last ≡ turning s w' present' n last'
+turning_is s w w' present present' n last last' e f g = cc
 
 some_is : {A : Type 0} (x y : A) → Some x ≡ Some y → x ≡ y
 some_is x y h = cc
@@ -30,26 +36,6 @@ module _ (s : Spec) (text : Bytes) where
 
   pub said_something : (o : Outcome) → is_skipped text ≡ false → read_line s text ≡ o → said s text ≡ Some o
   said_something o h e = ap (λ (b : Bool). if b then None else Some (read_line s text)) h ∙ ap Some e
-
-  pub follows_skipped : (t : Turning) (state : WriterState) (old : Option (List ℕ)) → is_skipped text ≡ true → Follows s (said s text) t t state old state old
-  follows_skipped t state old h =
-      let nothing : Follows s None t t state old state old =
-      record { sound = refl; run = []; is_run = tt; after = refl; count = omega arith; writes = still state old } in
-      subst (λ (o : Option Outcome). Follows s o t t state old state old) (sym (said_nothing h)) nothing
-
-  pub follows_told : (m : Message) (t t' : Turning) (first second : WriterState) (old new : Option (List ℕ)) → is_skipped text ≡ false → read_line s text ≡ tells m
-      → Reacts s (t.events + 1) m t.world t'.world first old second new → t'.events ≡ t.events + 1 → Follows s (said s text) t t' first old second new
-  follows_told m t t' first second old new h e r count =
-      let one : Follows s (Some (tells m)) t t' first old second new =
-      record {
-        sound = refl;
-        run = r.reaction ∷ [];
-        is_run = (r.is, tt);
-        after = r.world;
-        count = omega (arith, count);
-        writes = alike (sym (append-nil (reaction_text (globals_of s) (t.events + 1, r.reaction)))) r.writes;
-      } in
-      subst (λ (o : Option Outcome). Follows s o t t' first old second new) (sym (said_something (tells m) h e)) one
 
 -- The numbers of a line that was received.
 
@@ -89,13 +75,20 @@ module _ (s forms : Spec) (text : Bytes) (r : Received) (values : List ℤ) (sam
   pub are_numbers : IfSome (slice_get (receives s) r.interface) (λ x. HoldsNumbers s x values)
   are_numbers = holds_numbers s (read_line s text) r values received
 
-  pub follows_received : (t t' : Turning) (first second : WriterState) (old new : Option (List ℕ)) → is_skipped text ≡ false
-      → ((x : ReceiveInstance) → slice_get (receives s) r.interface ≡ Some x → Reacts s (t.events + 1) (message_of x values) t.world t'.world first old second new)
-      → t'.events ≡ t.events + 1 → Follows s (said s text) t t' first old second new
-  follows_received t t' first second old new not_skipped reacts count =
-      follows_told s text received.message t t' first second old new not_skipped received.told
-      (subst (λ (m : Message). Reacts s (t.events + 1) m t.world t'.world first old second new) (message_is s (read_line s text) r values received)
-      (reacts received.message.receive received.receive)) count
+  -- it was taken
+  pub takes_received : (w w' : World) (present present' : List Instance) (n : ℕ) (last last' : LastRound)
+      → ((x : ReceiveInstance) → slice_get (receives s) r.interface ≡ Some x → (w' ≡ latched s w (message_of x values)) × (present' ≡ x.raised ∷ []) × (last' ≡ last))
+      → Takes (read_line s text) r.interface (turning s w present n last) (turning s w' present' (n + 1) last')
+  takes_received w w' present present' n last last' latches =
+      let m = received.message in
+      let there = latches m.receive received.receive in
+      let world : w' ≡ latched s w m = there.0 ∙ ap (latched s w) (message_is s (read_line s text) r values received) in
+      record {
+        message = m;
+        told = received.told;
+        receive = received.receive;
+        changes = turning_is s w' (latched s w m) present' (m.receive.raised ∷ []) (n + 1) last' last world there.1 there.2;
+      }
 
 -- a line that breaks a rule, by the forms of a specification
 pub says_broken : (s forms : Spec) (text : Bytes) (rule : LineRule) → forms ≡ s → is_skipped text ≡ false → read_line forms text ≡ breaks rule → said s text ≡ Some (breaks rule)
@@ -130,11 +123,23 @@ module _ (s : Spec) (k n : ℕ) (values : List ℤ) (there : k < length (receive
         for_some (λ (y : ReceiveInstance). AreTyped s y.inputs (take n values)) (slice_get (receives s) k) found.0 found.1
         (subst (λ (m : ℕ). AreTyped s found.0.inputs (take m values)) (count_is found.0 found.1) numbers.typed)
 
-  -- it reacts to their message
-  pub reacts_to : (number : ℕ) (w w' : World) (state : WriterState) (old : Option (List ℕ)) (state' : WriterState) (new : Option (List ℕ))
-      → IfSome (slice_get (receives s) k) (λ x. Reacts s number (record { receive = x; numbers = take n values }) w w' state old state' new)
-      → (x : ReceiveInstance) → slice_get (receives s) k ≡ Some x → Reacts s number (message_of x values) w w' state old state' new
-  reacts_to number w w' state old state' new reacts x at =
-      let there : Reacts s number (record { receive = x; numbers = take n values }) w w' state old state' new =
-      at_some (λ (y : ReceiveInstance). Reacts s number (record { receive = y; numbers = take n values }) w w' state old state' new) (slice_get (receives s) k) x at reacts in
-      subst (λ (m : ℕ). Reacts s number (record { receive = x; numbers = take m values }) w w' state old state' new) (sym (count_is x at)) there
+  -- their message was latched
+  pub latches_to : (old new : InWorld) → IfSome (slice_get (receives s) k) (λ x. new ≡ record old {
+    world = latched s old.world (record { receive = x; numbers = take n values });
+    present = x.raised ∷ [];
+  }) → (x : ReceiveInstance) → slice_get (receives s) k ≡ Some x → Latches s (message_of x values) old new
+  latches_to old new changes x at =
+      let there : new ≡ record old {
+        world = latched s old.world (record { receive = x; numbers = take n values });
+        present = x.raised ∷ [];
+      } =
+      at_some (λ (y : ReceiveInstance). new ≡ record old {
+        world = latched s old.world (record { receive = y; numbers = take n values });
+        present = y.raised ∷ [];
+      }) (slice_get (receives s) k) x at changes in
+      record {
+        machine = ap (λ (v : InWorld). v.machine) there;
+        world = ap (λ (v : InWorld). v.world) there ∙ ap (λ (m : ℕ). latched s old.world (record { receive = x; numbers = take m values })) (sym (count_is x at));
+        present = ap (λ (v : InWorld). v.present) there;
+        last = ap (λ (v : InWorld). v.last) there;
+      }

@@ -1,4 +1,5 @@
 pub mod Outputs
 pub mod Simulating
 pub mod Simulation
+pub mod Fitting
 pub mod helpers

@@ -1,24 +1,32 @@
-ghost use Rattle.std.specs.Prelude.{◌≡◌, ◌+◌, ◌<◌, ◌≤◌, ◌^◌, IfErr, IfOk, IfSome, OnErr, Some, length, slice_get, take};
+ghost use Rattle.std.specs.Prelude.{◌≡◌, ◌≢◌, ◌+◌, ◌<◌, ◌≤◌, ◌^◌, ℕ, suc, true, false, [], IfErr, IfOk, IfSome, OnErr, Some, length, slice_get, take};
+ghost use Rattle.rsml_meaning.specs.Words.{Each, Instance};
 ghost use Rattle.rsml_meaning.specs.Certified.{Certified};
-ghost use Rattle.rsml_meaning.specs.EventLines as lines;
+ghost use Rattle.rsml_meaning.specs.Chains.{Ends};
+ghost use Rattle.rsml_meaning.specs.EventLines.{breaks, is_skipped, read_line};
+ghost use Rattle.rsml_meaning.specs.Instances as instances;
 ghost use Rattle.rsml_meaning.specs.Interfaces.{ReceiveInstance, receives};
+ghost use Rattle.rsml_meaning.specs.Runs.{first_world};
+ghost use Rattle.rsml_meaning.specs.Steps.{Round};
+ghost use Rattle.rsml_meaning.specs.Trace.{event_line, round_text};
 ghost use Rattle.rsml_scopes.specs.Scoped.{WellScoped};
+ghost use Rattle.text_writer.specs.Writes.{Writes};
 ghost use Rattle.event_lines.specs.Told.{rule_of};
-ghost use Rattle.reactions.specs.Reacting.{Reacts};
-ghost use Rattle.simulator.specs.helpers.Turns.{Follows, message_of, no_turn, said};
-ghost use Rattle.simulator.specs.helpers.Kept.{HoldsNumbers};
+ghost use Rattle.micro_step.specs.Rows.{bits_of, member_rows};
+ghost use Rattle.reactions.specs.Stepping.{RoundIsDone, WasRound};
+ghost use Rattle.simulator.specs.helpers.Turns.{Takes, message_of};
+ghost use Rattle.simulator.specs.helpers.Kept.{HoldsNumbers, Latches};
 
 use elaborate::Machine;
-use event_file::skipped;
 use event_lines::{LineFault, LineForms};
+use ground_groups::Member;
 use reactions::Running;
 use rsml_syntax::{Checked, NoMemory};
 use std::alloc::Global;
 use std::marker::Model;
 use text_writer::Writer;
 
-/// A machine that follows the lines of an event file one after another. Only `new` takes memory. Contracts see the specification, the
-/// world, and how many events were followed.
+/// A machine that takes the lines of an event file one after another. Only `new` takes memory. Contracts see the specification, the
+/// world, the present events, how many events came, and the last round.
 #[derive(Drop)]
 pub struct Turns<'m, 'a> {
     machine: &'m Machine<'a>,
@@ -38,32 +46,30 @@ impl<'m, 'a> Model for Turns<'m, 'a> {
 
     ghost coded = { Prim.hlevel (codes, bodies.the_row.coded) };
 
-    ghost view = { λ t. record { spec = t.machine.now.base.spec; world = t.running.world; events = t.events } };
+    ghost view = { λ t. record {
+      spec = t.machine.now.base.spec;
+      world = t.running.world;
+      present = t.running.present;
+      events = t.events;
+      last = t.running.last;
+    } };
 
     ghost invariant = { λ t. AreForTurns t.machine.now t.running t.forms t.values.items };
 }
 
-/// Does the step of the event that a line told, and writes it with its number.
-fn react<W: Writer>(
-    machine: &Machine<'_>,
-    running: &mut Running<'_, '_>,
-    out: &mut W,
-    number: u64,
-    receive: u32,
-    values: &[i64],
-)
+/// Latches the message that a line told: its numbers are the first of the values.
+fn latch(machine: &Machine<'_>, running: &mut Running<'_, '_>, receive: u32, values: &[i64])
     requires same { running.old.machine ≡ machine.now }
-    requires certified { Certified machine.now.base.spec }
+    requires none { running.old.present ≡ [] }
     requires there { receive < length (receives machine.now.base.spec) }
     requires holds { IfSome (slice_get (receives machine.now.base.spec) receive) (λ x.
         HoldsNumbers machine.now.base.spec x values.now) }
     ensures machine { running.new.machine ≡ running.old.machine }
-    ensures reacts { (x : ReceiveInstance) → slice_get (receives machine.now.base.spec) receive ≡ Some x →
-        Reacts machine.now.base.spec number (message_of x values.now) running.old.world running.new.world
-        (W.state out.old) (W.text out.old) (W.state out.new) (W.text out.new) }
+    ensures latches { (x : ReceiveInstance) → slice_get (receives machine.now.base.spec) receive ≡ Some x →
+        Latches machine.now.base.spec (message_of x values.now) running.old running.new }
 {
     let fields = machine.interfaces().fields(receive) as usize;
-    running.react(out, number, receive, &values[..fields]);
+    running.latch(receive, &values[..fields]);
 }
 
 impl<'m, 'a> Turns<'m, 'a> {
@@ -75,11 +81,16 @@ impl<'m, 'a> Turns<'m, 'a> {
     ) -> Result<Turns<'m, 'a>, NoMemory>
         requires machine { machine.now.base.spec ≡ checked.now }
         requires certified { Certified checked.now }
-        ensures { IfOk result (λ t. t ≡ no_turn checked.now) }
+        ensures spec { IfOk result (λ t. t.spec ≡ checked.now) }
+        ensures first { IfOk result (λ t. t.world ≡ first_world checked.now) }
+        ensures last { IfOk result (λ t. t.last.world ≡ first_world checked.now) }
+        ensures none { IfOk result (λ t. t.present ≡ []) }
+        ensures uncounted { IfOk result (λ t. t.events ≡ 0) }
     {
-        let running = Running::new(alloc, checked, machine)?;
         let forms = LineForms::build(alloc, checked)?;
-        let values = vec![in alloc; 0i64; forms.most_fields()]?;
+        let fields = forms.most_fields();
+        let running = Running::new(alloc, checked, machine, fields)?;
+        let values = vec![in alloc; 0i64; fields]?;
         Ok(Turns {
             machine,
             running,
@@ -98,42 +109,93 @@ impl<'m, 'a> Turns<'m, 'a> {
         self.machine.law();
     }
 
-    /// How many events were followed.
+    /// How many events came.
     pub fn events(&self) -> u64
         ensures { result ≡ self.now.events }
     {
         self.events
     }
 
-    /// Follows a line without its line end: does the step of the event that it tells, if it tells one, and writes it. Else it writes
-    /// nothing, and says the lowest rule that the line breaks, if it breaks one.
-    pub fn follow<W: Writer>(&mut self, out: &mut W, line: &[u8]) -> Result<(), LineFault>
-        requires { self.old.events + 1 < 2 ^ 64 }
-        ensures ok { IfOk result (λ _. Follows self.old.spec (said self.old.spec line.now) self.old self.new
-            (W.state out.old) (W.text out.old) (W.state out.new) (W.text out.new)) }
-        ensures err { IfErr result (λ fault. said self.old.spec line.now ≡ Some (lines.breaks (rule_of fault))) }
-        ensures idle { OnErr result (out.new ≡ out.old) }
-        ensures spec { self.new.spec ≡ self.old.spec }
-        ensures few { self.new.events ≤ self.old.events + 1 }
+    /// How many events the specification has.
+    pub fn most_rounds(&self) -> u32
+        ensures { result ≡ length (instances.events self.now.spec) }
     {
-        if skipped(line) {
-            return Ok(());
-        }
+        let _ = &self.running;
+        self.machine.events()
+    }
+
+    /// Takes a line without its line end that is not skipped: latches the message that it tells, counts it, and says the number of its
+    /// receive. Else it says the lowest rule that the line breaks.
+    pub fn take(&mut self, line: &[u8]) -> Result<u32, LineFault>
+        requires none { self.old.present ≡ [] }
+        requires room { self.old.events + 1 < 2 ^ 64 }
+        requires unskipped { is_skipped line.now ≡ false }
+        ensures ok { IfOk result (λ k. Takes (read_line self.old.spec line.now) k self.old self.new) }
+        ensures err { IfErr result (λ fault. read_line self.old.spec line.now ≡ breaks (rule_of fault)) }
+        ensures idle { OnErr result (self.new ≡ self.old) }
+    {
         let values = self.values.as_mut_slice();
         match self.forms.read_line(line, values) {
             Ok(received) => {
                 self.events += 1;
-                react(
-                    self.machine,
-                    &mut self.running,
-                    out,
-                    self.events,
-                    received.interface,
-                    values,
-                );
-                Ok(())
+                latch(self.machine, &mut self.running, received.interface, values);
+                Ok(received.interface)
             }
             Err(fault) => Err(fault),
         }
+    }
+
+    /// Does a round on the present events. Whether one was present; where none was, nothing changes.
+    pub fn round(&mut self) -> bool
+        ensures none { result ≡ false → (self.old.present ≡ []) × (self.new ≡ self.old) }
+        ensures some { result ≡ true → self.old.present ≢ [] }
+        ensures done { result ≡ true →
+            RoundIsDone self.old.spec self.old.world self.old.present self.new.last self.new.world self.new.present }
+        ensures longer { result ≡ true → (x : Instance) (n : ℕ)
+            → Each (Ends self.old.spec x n) self.old.present → Each (Ends self.old.spec x (suc n)) self.new.present }
+        ensures rest { self.new ≡ record self.old { world = self.new.world; present = self.new.present; last = self.new.last } }
+    {
+        self.running.round()
+    }
+
+    /// The numbers of the transitions that the last round took, rising.
+    pub fn taken(&self) -> &[u32]
+        ensures { result.now ≡ self.now.last.taken }
+    {
+        self.running.taken()
+    }
+
+    /// The numbers of the cases of sends that were enabled in the last round, rising.
+    pub fn sent(&self) -> &[u32]
+        ensures { result.now ≡ self.now.last.sent }
+    {
+        self.running.sent()
+    }
+
+    /// The truths of the rows of a member's table in the world before the last round, as bits.
+    pub fn rows(&mut self, member: Member) -> u64
+        ensures rows { result ≡ bits_of (member_rows self.old.spec self.old.last.world member) }
+        ensures unchanged { self.new ≡ self.old }
+    {
+        self.running.rows(member)
+    }
+
+    /// Writes the line of the last event: its number, and the receive by which it came.
+    pub fn put_event<W: Writer>(&self, out: &mut W, receive: u32)
+        requires { receive < length (receives self.now.spec) }
+        ensures { (x : ReceiveInstance) → slice_get (receives self.now.spec) receive ≡ Some x
+            → Writes (W.state out.old) (W.text out.old) (event_line self.now.events x.receive)
+            (W.state out.new) (W.text out.new) }
+    {
+        self.running.put_event(out, self.events, receive);
+    }
+
+    /// Writes the last round with its number.
+    pub fn put_round<W: Writer>(&self, out: &mut W, number: u32)
+        ensures { (r : Round) → WasRound self.now.spec self.now.last r
+            → Writes (W.state out.old) (W.text out.old) (round_text (instances.globals_of self.now.spec) (number, r))
+            (W.state out.new) (W.text out.new) }
+    {
+        self.running.put_round(out, number);
     }
 }

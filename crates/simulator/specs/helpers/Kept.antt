@@ -1,9 +1,11 @@
 -- What a machine that follows lines keeps.
-use Rattle.std.specs.Prelude.{◌≡◌, ◌≤◌, List, length, take, ℤ}
+use Rattle.std.specs.Prelude.{◌≡◌, ◌≤◌, List, [], ◌∷◌, length, take, ℤ}
 use Rattle.rsml_syntax.specs.declared.syntax.Spec.{Spec}
 use Rattle.rsml_meaning.specs.Words.{Each}
 use Rattle.rsml_meaning.specs.Certified.{Certified}
+use Rattle.rsml_meaning.specs.EventLines.{Message}
 use Rattle.rsml_meaning.specs.Interfaces.{ReceiveInstance, receives}
+use Rattle.rsml_meaning.specs.Runs.{latched}
 use Rattle.elaborate.specs.Machine.{GroundMachine}
 use Rattle.interfaces.specs.Writes.{AreTyped}
 use Rattle.reactions.specs.Stepping.{InWorld}
@@ -19,3 +21,10 @@ pub record AreForTurns (m : GroundMachine) (running : InWorld) (forms : Spec) (v
 pub record HoldsNumbers (s : Spec) (x : ReceiveInstance) (values : List ℤ) : Type 0 where
   pub within : length x.inputs ≤ length values
   pub typed : AreTyped s x.inputs (take (length x.inputs) values)
+
+-- A message was latched, and its event is present.
+pub record Latches (s : Spec) (m : Message) (r r' : InWorld) : Type 0 where
+  pub machine : r'.machine ≡ r.machine
+  pub world : r'.world ≡ latched s r.world m
+  pub present : r'.present ≡ m.receive.raised ∷ []
+  pub last : r'.last ≡ r.last

@@ -5,19 +5,19 @@ use Rattle.rsml_io.specs.Writing.{appended}
 use Rattle.rsml_syntax.specs.declared.syntax.Spec.{Spec}
 use Rattle.rsml_meaning.specs.Words.{Each}
 use Rattle.rsml_meaning.specs.EventLines.{Bytes}
-use Rattle.rsml_meaning.specs.EventFiles.{Limits, Line, long_line, broken_line, long_file, fault_at}
-use Rattle.rsml_meaning.specs.Runs.{Reaction, first_world, IsRun}
+use Rattle.rsml_meaning.specs.EventFiles.{Limits, Line, long_line, broken_line, long_file, fault_at, messages}
+use Rattle.rsml_meaning.specs.Runs.{Reaction, first_world, IsRunFrom}
 use Rattle.rsml_meaning.specs.Texts.{text_line}
 use Rattle.rsml_meaning.specs.Trace.{trace_text}
 use Rattle.text_writer.specs.Writes.{WriterState}
 use Rattle.buffered_sink.specs.Buffering.{AppendsPrefix}
-use Rattle.event_file.specs.Reading.{Reading, Fits, lines_ahead}
-use Rattle.event_file.specs.declared.next.Next.{Next}
-use Rattle.event_file.specs.declared.next.Next.TheVariants as next
 use Rattle.event_lines.specs.Told.{rule_of}
 use Rattle.simulator.specs.Outputs.{fault_line, read_line, Output, ReadOutput}
 use Rattle.simulator.specs.helpers.Series.{world_after}
-use Rattle.simulator.specs.helpers.Turns.{Turning}
+use Rattle.simulator.specs.Simulation.{Simulation}
+use Rattle.simulator.specs.Fitting.{FitsFile, lines_read}
+use Rattle.simulator.specs.declared.upcoming.Upcoming.{Upcoming}
+use Rattle.simulator.specs.declared.upcoming.Upcoming.TheVariants as upcoming
 use Rattle.simulator.specs.declared.sim_end.SimEnd.{SimEnd}
 use Rattle.simulator.specs.declared.sim_end.SimEnd.TheVariants as end
 
@@ -40,27 +40,25 @@ pub record Counted (state state' : WriterState) : Type 0 where
 abbrev pub AreSound : Spec → Limits → Bytes → List Line → Type 0
 AreSound s limits content ls = Each (λ l. fault_at s limits (length content) l ≡ None) ls
 
--- Between two lines: the reader fits what the file holds, no line before its offset has a fault, and the events of these lines were
--- followed, and their reactions written.
-pub record Followed (s : Spec) (limits : Limits) (content : Bytes) (r : Reading) (t : Turning) (old : Option (List ℕ)) (state : WriterState) (new : Option (List ℕ)) : Type 0 where
-  pub spec : t.spec ≡ s
-  pub limited : r.limits ≡ limits
-  pub fits : Fits content r
-  pub sound : AreSound s limits content (lines_ahead r.at content)
+-- Between two events: the simulation fits what the file holds, and the reactions to all messages that came were written.
+pub record Followed (content : Bytes) (m : Simulation) (old : Option (List ℕ)) (state : WriterState) (new : Option (List ℕ)) : Type 0 where
+  pub fits : FitsFile content m
   pub run : List Reaction
-  pub is_run : IsRun s (lines_ahead r.at content) run
-  pub after : world_after (first_world s) run ≡ t.world
-  pub count : length run ≡ t.events
-  pub stands : Stands old (trace_text s run) state new
+  pub is_run : IsRunFrom m.spec (first_world m.spec) (messages m.spec (lines_read content m)) run
+  pub after : world_after (first_world m.spec) run ≡ m.world
+  pub count : length run ≡ m.events
+  pub stands : Stands old (trace_text m.spec run) state new
 
 -- Ends.
 
--- how it ends where the reader has no line
-abbrev pub end_at : Next → ℕ → ℕ → SimEnd
-end_at next.ReadFault events number = end.ReadFault
-end_at next.LineTooLong events number = end.LineTooLong number
-end_at next.TooLong events number = end.TooLong
-end_at _ events number = end.Ended events
+-- how it ends, by a final answer
+abbrev pub end_by : Upcoming → SimEnd
+end_by (upcoming.LineFault n fault) = end.LineFault n fault
+end_by (upcoming.LineTooLong n) = end.LineTooLong n
+end_by upcoming.ReadFault = end.ReadFault
+end_by upcoming.TooLong = end.TooLong
+end_by (upcoming.Ended n) = end.Ended n
+end_by (upcoming.Event k) = end.Ended 0
 
 -- the last line, by how it ends; none where a write was refused
 abbrev pub last_line : SimEnd → Bytes

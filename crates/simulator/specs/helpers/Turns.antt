@@ -1,22 +1,20 @@
--- A machine that follows the lines of event files one after another.
-use Rattle.std.specs.Prelude.{◌≡◌, ℕ, ◌+◌, List, [], ◌∷◌, length, take, Option, Some, None, if◌then◌else◌, ℤ}
+-- A machine that takes the lines of event files one after another.
+use Rattle.std.specs.Prelude.{◌≡◌, ℕ, ◌+◌, List, [], ◌∷◌, length, take, Option, Some, None, slice_get, if◌then◌else◌, ℤ}
 use Rattle.rsml_syntax.specs.declared.syntax.Spec.{Spec}
 use Rattle.rsml_syntax.specs.declared.world.World.{World}
+use Rattle.rsml_meaning.specs.Words.{Instance}
 use Rattle.rsml_meaning.specs.EventLines.{Bytes, is_skipped, LineRule, Message, Outcome, breaks, tells, read_line}
-use Rattle.rsml_meaning.specs.Interfaces.{ReceiveInstance}
-use Rattle.rsml_meaning.specs.Runs.{Reaction, first_world, IsRunFrom}
-use Rattle.text_writer.specs.Writes.{WriterState, Writes}
-use Rattle.simulator.specs.helpers.Series.{world_after, texts_from}
+use Rattle.rsml_meaning.specs.Interfaces.{ReceiveInstance, receives}
+use Rattle.rsml_meaning.specs.Runs.{latched}
+use Rattle.reactions.specs.Stepping.{LastRound}
 
--- A specification, the world that it is in, and how many events were followed.
+-- A specification, the world that it is in, the events that are present, how many events came, and the last round.
 pub record Turning : Type 0 where
   pub spec : Spec
   pub world : World
+  pub present : List Instance
   pub events : ℕ
-
--- none yet, in the first world
-abbrev pub no_turn : Spec → Turning
-no_turn s = record { spec = s; world = first_world s; events = 0 }
+  pub last : LastRound
 
 -- the message of a receive with these numbers
 abbrev pub message_of : ReceiveInstance → List ℤ → Message
@@ -34,11 +32,13 @@ rule_in o = elim o [ Some (breaks rule) ↦ Some rule | _ ↦ None ]
 abbrev pub told_in : Option Outcome → List Message
 told_in o = elim o [ Some (tells m) ↦ m ∷ [] | _ ↦ [] ]
 
--- A line that breaks no rule was followed: its event has its reaction, which was written with the number after that of the last event.
-pub record Follows (s : Spec) (o : Option Outcome) (t t' : Turning) (state : WriterState) (old : Option (List ℕ)) (state' : WriterState) (new : Option (List ℕ)) : Type 0 where
-  pub sound : rule_in o ≡ None
-  pub run : List Reaction
-  pub is_run : IsRunFrom s t.world (told_in o) run
-  pub after : world_after t.world run ≡ t'.world
-  pub count : t'.events ≡ t.events + length run
-  pub writes : Writes state old (texts_from s (t.events + 1) run) state' new
+-- The line tells a message of the receive of this number: it was latched, its event is present, and it was counted.
+pub record Takes (o : Outcome) (k : ℕ) (t t' : Turning) : Type 0 where
+  pub message : Message
+  pub told : o ≡ tells message
+  pub receive : slice_get (receives t.spec) k ≡ Some message.receive
+  pub changes : t' ≡ record t {
+    world = latched t.spec t.world message;
+    present = message.receive.raised ∷ [];
+    events = t.events + 1;
+  }

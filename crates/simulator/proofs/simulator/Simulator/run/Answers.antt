@@ -1,14 +1,17 @@
-use Rattle.std.proofs.Common.{ℕ, ◌≤◌, List, Option, ap, ◌∙◌, arith, rules, subst}
+use Rattle.std.proofs.Common.{ℕ, ◌≤◌, List, Option, sym, ap, ◌∙◌, arith, rules, subst}
 use Rattle.rsml_meaning.specs.EventLines.{Bytes}
 use Rattle.text_writer.specs.Writes.{WriterState}
 use Rattle.buffered_sink.specs.Parts.{state_of, text_of}
 use Rattle.event_file.specs.Reading.{taken}
 use Rattle.simulator.specs.declared.sim_end.SimEnd.TheVariants as end
 use Rattle.simulator.specs.Simulating.{Meeting, Simulates}
-use Rattle.simulator.specs.Simulation.{Simulation}
+use Rattle.simulator.specs.Simulation.{Simulation, IsNew}
 use Rattle.simulator.specs.helpers.Progress.{Stops}
 use Rattle.simulator.proofs.EndLemmas.{Closing, of_told, closes_whole, closes_refused}
 use Rattle.simulator.proofs.simulator.Simulator.run.Goals as goal
+
+pub follow_all-end-requires-clause-new : goal.follow_all-end-requires-clause-new
+follow_all-end-requires-clause-new g c = subst IsNew (sym c.self.view_is) c.requires
 
 pub returns-then-finish-clause-simulates : goal.returns-then-finish-clause-simulates
 returns-then-finish-clause-simulates g c =
@@ -25,10 +28,10 @@ returns-then-finish-clause-simulates g c =
     let mid = c.follow_all-end.new.out in
     let last = c.put_last_line.new.out in
     let sink' = c.finish.new.self.0 in
-    let s = c.self.inside.turns.spec in
-    let limits = c.self.inside.reader.limits in
+    let s = c.self.inside.course.spec in
+    let limits = c.self.inside.course.limits in
     let e = c.follow_all-end.result in
-    let k = taken c.follow_all-end.new.reader in
+    let k = taken c.follow_all-end.new.course.reading in
     let m : Meeting = record {
       told = contents files name;
       reach = reach files name;
@@ -77,10 +80,10 @@ returns-clause-simulates g c =
     let mid = c.follow_all-end.new.out in
     let last = c.put_last_line.new.out in
     let sink' = c.finish.new.self.0 in
-    let s = c.self.inside.turns.spec in
-    let limits = c.self.inside.reader.limits in
+    let s = c.self.inside.course.spec in
+    let limits = c.self.inside.course.limits in
     let e = c.follow_all-end.result in
-    let k = taken c.follow_all-end.new.reader in
+    let k = taken c.follow_all-end.new.course.reading in
     let m : Meeting = record {
       told = contents files name;
       reach = reach files name;
