@@ -1,26 +1,38 @@
-ghost use Rattle.std.specs.Prelude.{◌≡◌, ◌≢◌, ◌<◌, ◌≤◌, ◌↔◌, [], ◌++◌, length, take, drop, IsTrue, IfOk};
+ghost use Rattle.std.specs.Prelude.{◌≡◌, ◌≢◌, ◌+◌, ◌-◌, ◌<◌, ◌≤◌, [], ◌++◌, length, take, drop, vec_len, IfOk};
 ghost use Rattle.buffered_sink.specs.Buffering.{none_waiting};
 
 use rsml_base::NoMemory;
 use std::alloc::Global;
 use std::marker::Model;
 
-/// Room for bytes that wait to be written. Contracts see the bytes, and how many may wait.
+/// Room for bytes that wait to be written. Contracts see the bytes that wait, and how many may wait.
 #[derive(Drop)]
 pub struct Buffer {
+    /// As many bytes as there is room for. The first `len` of them wait.
     bytes: Vec<u8>,
-    room: usize,
+    len: usize,
 }
 
 impl Model for Buffer {
-    ghost use Rattle.std.specs.Prelude.{◌<◌, ◌≤◌, vec_len, vec_capacity};
+    ghost use Rattle.std.specs.Prelude.{◌<◌, ◌≤◌, take, vec_len};
     ghost use Rattle.buffered_sink.specs.Buffering.{Waiting};
 
     ghost Value = { Waiting };
 
-    ghost view = { λ b. record { bytes = b.bytes.items; room = b.room } };
+    ghost view = { λ b. record { bytes = take b.len b.bytes.items; room = vec_len b.bytes } };
 
-    ghost invariant = { λ b. (0 < b.room) × (vec_len b.bytes ≤ b.room) × (b.room ≤ vec_capacity b.bytes) };
+    ghost invariant = { λ b. (0 < vec_len b.bytes) × (b.len ≤ vec_len b.bytes) };
+}
+
+/// Moves the bytes from `start` to `end` to the front.
+fn move_to_front(bytes: &mut Vec<u8>, start: usize, end: usize)
+    requires order { start ≤ end }
+    requires within { end ≤ vec_len bytes.old }
+    ensures room { vec_len bytes.new ≡ vec_len bytes.old }
+    ensures front { take (end - start) bytes.new.items
+        ≡ take (end - start) (drop start bytes.old.items) }
+{
+    bytes.copy_within(start..end, 0);
 }
 
 impl Buffer {
@@ -30,8 +42,8 @@ impl Buffer {
         ensures { IfOk result (λ b. b ≡ none_waiting room) }
     {
         Ok(Buffer {
-            bytes: Vec::with_capacity(alloc, room)?,
-            room,
+            bytes: vec![in alloc; 0u8; room]?,
+            len: 0,
         })
     }
 
@@ -39,7 +51,18 @@ impl Buffer {
     pub fn bytes(&self) -> &[u8]
         ensures { result.now ≡ self.now.bytes }
     {
-        self.bytes.as_slice()
+        &self.bytes[..self.len]
+    }
+
+    /// Has bytes wait. There is room for them.
+    fn push(&mut self, bytes: &[u8])
+        requires { length self.old.bytes + length bytes.now ≤ self.old.room }
+        ensures pushed { self.new.bytes ≡ self.old.bytes ++ bytes.now }
+        ensures room { self.new.room ≡ self.old.room }
+    {
+        let end = self.len + bytes.len();
+        self.bytes[self.len..end].copy_from_slice(bytes);
+        self.len = end;
     }
 
     /// Has bytes from the front of `bytes` wait, as many as there is room for, and says how many.
@@ -49,26 +72,24 @@ impl Buffer {
         ensures some { result < length bytes.now → self.new.bytes ≢ [] }
         ensures room { self.new.room ≡ self.old.room }
     {
-        let left = self.room - self.bytes.len();
+        let left = self.bytes.len() - self.len;
         if bytes.len() <= left {
-            self.bytes.extend_from_slice(bytes).unwrap();
+            self.push(bytes);
             bytes.len()
         } else {
-            self.bytes.extend_from_slice(&bytes[..left]).unwrap();
+            self.push(&bytes[..left]);
             left
         }
     }
 
     /// Lets bytes from the front go.
+    #[tactic(auto, using(std::proofs::lemmas::Slice::between_is))]
     pub(crate) fn remove_front(&mut self, n: usize)
         requires { n ≤ length self.old.bytes }
         ensures rest { self.new.bytes ≡ drop n self.old.bytes }
         ensures room { self.new.room ≡ self.old.room }
     {
-        if n == self.bytes.len() {
-            self.bytes.clear();
-        } else {
-            self.bytes.drain(..n);
-        }
+        move_to_front(&mut self.bytes, n, self.len);
+        self.len -= n;
     }
 }
