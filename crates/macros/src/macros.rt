@@ -13,7 +13,6 @@ ghost use Rattle.macros.specs.Known.{IsKnown, Knows};
 ghost use Rattle.macros.specs.Named.{Named};
 ghost use Rattle.rsml_syntax.specs.rules.Relations as relations;
 ghost use Rattle.rsml_ground.specs.declared.definitions.Definition.{Definition as DefinitionValue};
-ghost use Rattle.rsml_ground.specs.declared.phrases.GroundPhrase.{GroundPhrase as PhraseValue};
 ghost use Rattle.std.specs.List.{list_any};
 ghost use Rattle.macros.specs.Guards.{guards_of, phrases_of};
 ghost use Rattle.rsml_ground.specs.Truths as spec;
@@ -204,17 +203,24 @@ impl<'a> Macros<'a> {
 
     /// The truth of the phrase of a number in a world, by the truths of the phrases on which it rests. A comparison of one term
     /// with one term is read from where all such lie one after another.
-    fn number_truth(&self, tree: &Tree<'_>, world: &World, truths: &Truths, number: u32) -> bool
+    fn number_truth(
+        &self,
+        tree: &Tree<'_>,
+        world: &World,
+        truths: &Truths,
+        number: u32,
+        phrase: &GroundPhrase,
+    ) -> bool
         requires tree { tree.now ≡ self.now.spec }
         requires world { IsWorld self.now.spec world.now }
-        requires number { number < length self.now.phrases }
-        requires many { length truths.now ≡ length self.now.phrases }
-        ensures { (p : PhraseValue) → slice_get self.now.phrases number ≡ Some p
-            → result ≡ spec.phrase_truth self.now world.now truths.now p }
+        requires phrase { slice_get self.now.phrases number ≡ Some phrase.now }
+        requires rests { RestsOn self.now.definitions (length (cells self.now.spec))
+            (length truths.now) phrase.now }
+        ensures { result ≡ spec.phrase_truth self.now world.now truths.now phrase.now }
     {
         match self.pairs[number as usize] {
             Some(pair) => self.pair_truth(world, pair),
-            None => self.phrase_truth(tree, world, truths, self.phrase(number)),
+            None => self.phrase_truth(tree, world, truths, phrase),
         }
     }
 
@@ -252,7 +258,7 @@ impl<'a> Macros<'a> {
         ensures { result ≡ known (truths_in self.now world.now) number }
     {
         let _ = &self.spec;
-        self.phrase_truth(tree, world, memo.truths(), phrase)
+        self.number_truth(tree, world, memo.truths(), number, phrase)
     }
 
     /// Whether the relation holds between two sums.
@@ -353,7 +359,7 @@ impl<'a> Macros<'a> {
         phrases_mean_the_text();
         let _ = &self.spec;
         for number in 0..self.phrases() {
-            let truth = self.number_truth(tree, world, truths, number);
+            let truth = self.number_truth(tree, world, truths, number, self.phrase(number));
             truths.set(number, truth);
         }
     }
