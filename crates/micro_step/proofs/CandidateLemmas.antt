@@ -25,9 +25,9 @@ use Rattle.elaborate.specs.Machine.{GroundMachine, StandsFor}
 use Rattle.elaborate.specs.OnEvents.{places_of}
 use Rattle.elaborate.specs.Enabled.{is_enabled, is_sending}
 use Rattle.micro_step.specs.declared.candidates.Candidate.{Candidate}
-use Rattle.micro_step.specs.Asked.{AsksFor, asked_truth}
+use Rattle.prepared_phrases.specs.Asked.{AsksFor, asked_truth}
 use Rattle.micro_step.specs.Candidates.{Fits, TellsOf, AreFor, AreOnEvents, is_met}
-use Rattle.micro_step.specs.Choices.{AreOfComponents, TellActivity, are_chosen}
+use Rattle.state_choices.specs.Choices.{AreOfComponents, TellActivity, are_chosen}
 use Rattle.micro_step.specs.Places.{passes, places_where}
 use Rattle.micro_step.specs.Rising.{among}
 use Rattle.micro_step.proofs.LoopLemmas.{on_event}

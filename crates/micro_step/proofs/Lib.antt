@@ -1,16 +1,11 @@
-pub mod Activity
-pub mod AskedLemmas
 pub mod BitLemmas
 pub mod CandidateLemmas
-pub mod Components
 pub mod LoopLemmas
 pub mod MachineLemmas
 pub mod MicroLemmas
-pub mod Names
 pub mod PlaceLemmas
 pub mod PresentLemmas
 pub mod RisingLemmas
 pub mod RowLemmas
-pub mod StateLemmas
 pub mod TurnLemmas
 pub mod ValueLemmas

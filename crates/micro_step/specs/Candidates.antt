@@ -8,8 +8,8 @@ use Rattle.elaborate.specs.Machine.{GroundMachine}
 use Rattle.elaborate.specs.OnEvents.{transitions_on, cases_on}
 use Rattle.elaborate.specs.Enabled.{is_enabled, is_sending}
 use Rattle.micro_step.specs.declared.candidates.Candidate.{Candidate}
-use Rattle.micro_step.specs.Asked.{AskedBelow, asked_truth}
-use Rattle.micro_step.specs.Choices.{AreOfComponents, are_chosen}
+use Rattle.prepared_phrases.specs.Asked.{AskedBelow, asked_truth}
+use Rattle.state_choices.specs.Choices.{AreOfComponents, are_chosen}
 use Rattle.micro_step.specs.Places.{passes}
 
 -- the children of the choices are chosen, and the guard is true

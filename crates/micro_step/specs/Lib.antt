@@ -1,10 +1,7 @@
-pub mod Asked
 pub mod Candidates
-pub mod Choices
 pub mod Micros
 pub mod Numbers
 pub mod Places
 pub mod Rising
 pub mod Rows
 pub mod Sets
-pub mod StatePhrases

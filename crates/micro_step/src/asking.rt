@@ -4,11 +4,11 @@ ghost use Rattle.rsml_ground.specs.Truths.{guard_truth, truths_in};
 ghost use Rattle.macros.specs.Guards.{GuardBelow};
 ghost use Rattle.macros.specs.Known.{Knows};
 ghost use Rattle.and_or_tables.specs.Ground.{known};
-ghost use Rattle.micro_step.specs.Asked.{AskedBelow, ColumnBelow, asked_truth, column_truth, columns_truth, literal_truth};
+ghost use Rattle.prepared_phrases.specs.Asked.{AskedBelow, ColumnBelow, asked_truth, column_truth, columns_truth, literal_truth};
 
-use crate::asked::{Asked, Literal};
 use elaborate::Machine;
 use macros::{FastGuard, Memo};
+use prepared_phrases::{Asked, Literal};
 use rsml_syntax::World;
 
 /// The truth of a guard in the world.
@@ -96,6 +96,7 @@ pub fn is_true(machine: &Machine<'_>, world: &World, memo: &mut Memo, asked: &As
     ensures knows { Knows machine.now.base world.now memo.new }
 {
     match asked {
+        Asked::Single(literal) => holds(machine, world, memo, *literal),
         Asked::Columns(columns) => some_column_holds(machine, world, memo, columns.as_slice()),
         Asked::Masks(guard) => ask(machine, world, memo, guard),
     }

@@ -6,13 +6,13 @@ ghost use Rattle.micro_step.specs.Candidates as spec;
 ghost use Rattle.micro_step.specs.Candidates.{Fits};
 ghost use Rattle.micro_step.specs.Rising.{AreRising, among};
 
-use crate::asked::Asked;
 use crate::asking::is_true;
-use crate::choices::{Choice, are_chosen};
 use crate::rising::Rising;
 use elaborate::Machine;
 use macros::Memo;
+use prepared_phrases::Asked;
 use rsml_syntax::World;
+use state_choices::{Choice, are_chosen};
 
 /// A transition, or a case of a send, by its number: the children that make its source active, and how its guard is asked.
 #[derive(Drop)]

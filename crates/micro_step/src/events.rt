@@ -18,6 +18,13 @@ impl Events {
         Events { words: [0; 16] }
     }
 
+    /// Takes all events out.
+    pub fn clear(&mut self)
+        ensures { (q : ℕ) → has self.new q ≡ false }
+    {
+        self.words = [0; 16];
+    }
+
     /// Whether an event is in the set.
     pub fn has(&self, event: usize) -> bool
         requires { event < 1024 }

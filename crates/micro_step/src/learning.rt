@@ -1,14 +1,14 @@
 ghost use Rattle.std.specs.Prelude.{◌≡◌, ◌<◌, All, length, map};
 ghost use Rattle.rsml_meaning.specs.Worlds.{IsWorld};
 ghost use Rattle.macros.specs.Known.{Knows};
-ghost use Rattle.micro_step.specs.StatePhrases.{IsStatePhrase, some_chosen};
+ghost use Rattle.prepared_phrases.specs.StatePhrases.{IsStatePhrase, some_chosen};
 
-use crate::choices::{Choice, are_chosen};
 use crate::events::Events;
-use crate::state_phrases::StatePhrase;
 use elaborate::Machine;
 use macros::Memo;
+use prepared_phrases::StatePhrase;
 use rsml_syntax::World;
+use state_choices::{Choice, are_chosen};
 
 /// Whether the component of each choice of one of these lists has its child.
 fn is_some_chosen(chosen: &[u8], ways: &[Vec<Choice>]) -> bool

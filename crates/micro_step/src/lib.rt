@@ -1,10 +1,8 @@
 //! Micro-steps of a specification over numbers.
 #![tactic(auto)]
 
-mod asked;
 mod asking;
 mod candidates;
-mod choices;
 mod events;
 mod learning;
 mod moves;
@@ -15,7 +13,6 @@ mod rising;
 mod rows;
 mod scratch;
 mod sending;
-mod state_phrases;
 mod steps;
 mod sums;
 mod taking;

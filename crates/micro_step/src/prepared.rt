@@ -4,11 +4,11 @@ ghost use Rattle.elaborate.specs.Enabled.{is_enabled, is_sending};
 ghost use Rattle.elaborate.specs.OnEvents as numbers;
 ghost use Rattle.micro_step.specs.Candidates.{AreFor, AreOfCases, AreOfTransitions, TellsOf};
 
-use crate::asked::Asked;
 use crate::candidates::Candidate;
-use crate::choices::choices_around;
 use elaborate::Machine;
+use prepared_phrases::Asked;
 use rsml_syntax::NoMemory;
+use state_choices::choices_around;
 use std::alloc::Global;
 
 /// The candidate for a transition.

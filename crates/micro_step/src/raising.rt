@@ -22,14 +22,13 @@ fn raise_by(machine: &Machine<'_>, transition: u32, raised: &mut Events)
     }
 }
 
-/// The events that transitions raise.
-pub fn raised_by(machine: &Machine<'_>, taken: &[u32]) -> Events
+/// Puts the events that transitions raise in the place of those of a set.
+pub fn raise_all(machine: &Machine<'_>, taken: &[u32], raised: &mut Events)
     requires { Each (λ k. k < length machine.now.transitions) taken.now }
-    ensures { (q : ℕ) → has result q ≡ raised_at machine.now taken.now q }
+    ensures { (q : ℕ) → has raised.new q ≡ raised_at machine.now taken.now q }
 {
-    let mut raised = Events::new();
+    raised.clear();
     for transition in taken {
-        raise_by(machine, *transition, &mut raised);
+        raise_by(machine, *transition, raised);
     }
-    raised
 }

@@ -15,13 +15,13 @@ use crate::prepared::{of_cases, of_transitions};
 use crate::rising::Rising;
 use crate::rows::member_rows;
 use crate::sending::send;
-use crate::state_phrases::StatePhrase;
 use crate::taking::take;
 use crate::values::write_all;
 use elaborate::Machine;
 use ground_groups::Member;
 use ground_members::GroundAnswer;
 use macros::Memo;
+use prepared_phrases::StatePhrase;
 use rsml_syntax::{NoMemory, World};
 use std::alloc::Global;
 use std::marker::Model;
@@ -84,7 +84,8 @@ impl Scratch {
     /// Room for the micro-steps of a machine.
     pub fn new(alloc: Global, machine: &Machine<'_>) -> Result<Scratch, NoMemory>
         ensures made { IfOk result (λ scratch. IsFor machine.now scratch) }
-        ensures none { IfOk result (λ scratch. scratch.taken.items ≡ []) }
+        ensures none_taken { IfOk result (λ scratch. scratch.taken.items ≡ []) }
+        ensures none_sent { IfOk result (λ scratch. scratch.sent.items ≡ []) }
         ensures knows { IfOk result (λ scratch. (w : WorldValue) → Knows machine.now.base w scratch.memo) }
     {
         let memo = Memo::new(alloc, machine.macros().phrases())?;

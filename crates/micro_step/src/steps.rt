@@ -10,7 +10,7 @@ ghost use Rattle.micro_step.specs.Numbers.{IsFor, left_by, of_cases, sent_at, ta
 
 use crate::events::Events;
 use crate::moves::enter_all;
-use crate::raising::raised_by;
+use crate::raising::raise_all;
 use crate::scratch::Scratch;
 use elaborate::Machine;
 use one_run::{micro_steps_have_one_result, rounds_are_determinate};
@@ -41,7 +41,7 @@ pub fn react(machine: &Machine<'_>, scratch: &mut Scratch, world: &World, events
     micro_steps_have_one_result();
     rounds_are_determinate();
     scratch.read(machine, world, events);
-    *events = raised_by(machine, scratch.taken());
+    raise_all(machine, scratch.taken(), events);
 }
 
 /// One micro-step from a world on the events of a set: what is enabled is read in the world; then the moves are entered one

@@ -1,4 +1,1 @@
-pub mod Names
-pub mod Components
-pub mod Activity
 pub mod Told

@@ -4,7 +4,8 @@ ghost use Rattle.rsml_syntax.specs.limits.Checked.{IsChecked};
 ghost use Rattle.rsml_meaning.specs.Instances.{Component, states, components};
 ghost use Rattle.bdd_core.specs.Calls.{Keeps};
 ghost use Rattle.world_sums.specs.Tells.{Tells};
-ghost use Rattle.state_diagrams.specs.Active.{IsPlaceOf, SpellChoices, is_chosen};
+ghost use Rattle.state_choices.specs.Children.{IsPlaceOf, has_child};
+ghost use Rattle.state_diagrams.specs.Active.{SpellChoices};
 
 use bdd_core::{Arena, Ref};
 use linear_bits::SumTable;
@@ -44,7 +45,7 @@ pub fn where_chosen(
     requires component { component < length (components tree.now) }
     requires node { node < length (states tree.now) }
     ensures keeps { Keeps arena.old arena.new }
-    ensures answer { IfOk result (Tells arena.new layout.now (λ w. is_chosen tree.now w component node)) }
+    ensures answer { IfOk result (Tells arena.new layout.now (λ w. has_child tree.now w component node)) }
 {
     match place_of(tree, component, node) {
         Some(place) => choice(arena, sums, layout, component, place),

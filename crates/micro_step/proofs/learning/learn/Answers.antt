@@ -4,10 +4,10 @@ use Rattle.rsml_meaning.specs.Instances.{components}
 use Rattle.rsml_ground.specs.Truths.{truths_in}
 use Rattle.macros.specs.Known.{Knows}
 use Rattle.macros.proofs.Learning.{learned_right}
-use Rattle.micro_step.specs.declared.choices.Choice.{Choice}
-use Rattle.micro_step.specs.StatePhrases.{some_chosen}
+use Rattle.state_choices.specs.declared.choices.Choice.{Choice}
+use Rattle.prepared_phrases.specs.StatePhrases.{some_chosen}
 use Rattle.micro_step.proofs.MicroLemmas.{world_choices}
-use Rattle.micro_step.proofs.StateLemmas.{of_each}
+use Rattle.prepared_phrases.proofs.StateLemmas.{of_each}
 use Rattle.micro_step.proofs.learning.learn.Goals as goal
 
 pub is_some_chosen-truth-requires : goal.is_some_chosen-truth-requires

@@ -4,8 +4,8 @@ use Rattle.rsml_syntax.specs.limits.Checked.{IsChecked}
 use Rattle.rsml_meaning.specs.Instances.{states}
 use Rattle.rsml_ground.specs.declared.definitions.GroundGuard.{GroundGuard}
 use Rattle.macros.specs.Guards.{GuardBelow, HasShape}
-use Rattle.micro_step.specs.Asked.{AsksFor}
-use Rattle.micro_step.specs.Choices.{AreOfComponents, TellActivity}
+use Rattle.prepared_phrases.specs.Asked.{AsksFor}
+use Rattle.state_choices.specs.Choices.{AreOfComponents, TellActivity}
 use Rattle.micro_step.proofs.CandidateLemmas.{transition_shape, tells_of_transition}
 use Rattle.micro_step.proofs.MachineLemmas.{source_below}
 use Rattle.micro_step.proofs.prepared.of_transition.Goals as goal

@@ -4,8 +4,8 @@ use Rattle.rsml_meaning.specs.Instances.{components}
 use Rattle.state_tree.proofs.Lists.{within_get}
 use Rattle.world_levels.specs.Spelling.{world_of}
 use Rattle.world_sums.specs.Tells.{Tells}
-use Rattle.state_diagrams.specs.Active.{is_chosen}
-use Rattle.state_diagrams.proofs.Activity.{chosen_at, chosen_never}
+use Rattle.state_choices.specs.Children.{has_child}
+use Rattle.state_choices.proofs.Activity.{chosen_at, chosen_never}
 use Rattle.state_diagrams.proofs.Told.{told_as}
 use Rattle.state_diagrams.proofs.choices.where_chosen.Goals as goal
 
@@ -16,8 +16,8 @@ returns-in-Some-clause-answer c =
     let k = within_get (components s) c.args.component c.requires.component in
     IfOk-weaker c.choice.result
     (Tells c.choice.new.arena levels (λ w. slice_index_or w.choices c.args.component 0 == c.in-Some.place))
-    (Tells c.choice.new.arena levels (λ w. is_chosen s w c.args.component c.args.node))
-    (λ r h. told_as c.choice.new.arena levels (λ w. slice_index_or w.choices c.args.component 0 == c.in-Some.place) (λ w. is_chosen s w c.args.component c.args.node) r
+    (Tells c.choice.new.arena levels (λ w. has_child s w c.args.component c.args.node))
+    (λ r h. told_as c.choice.new.arena levels (λ w. slice_index_or w.choices c.args.component 0 == c.in-Some.place) (λ w. has_child s w c.args.component c.args.node) r
     (λ values. chosen_at s c.requires.checked c.args.component c.args.node c.in-Some.place (world_of levels.spec levels.slots values) k.0 k.1 c.requires.node (c.in-Some.ensures k.0 k.1)
     (c.requires.choices values)) h)
     c.choice.ensures.answer
@@ -27,7 +27,7 @@ returns-in-None-clause-answer c =
     let s = c.args.tree.now in
     let levels = c.args.layout.now in
     let k = within_get (components s) c.args.component c.requires.component in
-    told_as c.args.arena.now levels (λ w. false) (λ w. is_chosen s w c.args.component c.args.node) c.constant.result
+    told_as c.args.arena.now levels (λ w. false) (λ w. has_child s w c.args.component c.args.node) c.constant.result
     (λ values. chosen_never s c.requires.checked c.args.component c.args.node (world_of levels.spec levels.slots values) k.0 k.1 c.requires.node (c.in-None.ensures k.0 k.1)
     (c.requires.choices values))
     c.constant.ensures

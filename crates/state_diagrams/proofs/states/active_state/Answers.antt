@@ -9,8 +9,8 @@ use Rattle.bdd_core.specs.Diagram.{meaning}
 use Rattle.bdd_core.specs.Calls.{Represents}
 use Rattle.world_levels.specs.Spelling.{world_of}
 use Rattle.world_sums.specs.Tells.{Tells}
-use Rattle.state_diagrams.specs.Active.{is_chosen}
-use Rattle.state_diagrams.proofs.Activity.{top_active, around_before, same_active, both_active}
+use Rattle.state_choices.specs.Children.{has_child}
+use Rattle.state_choices.proofs.Activity.{top_active, around_before, same_active, both_active}
 use Rattle.state_diagrams.proofs.Told.{told_as, told_both, tells_keeps}
 use Rattle.state_diagrams.proofs.states.active_state.Goals as goal
 
@@ -69,7 +69,7 @@ returns-clause-answer c =
     let less = around_before s c.requires.checked node outer c.requires.node c.in-Some.ensures in
     let told_around = c.requires.each outer around (get_item c.args.before.now outer around (omega (arith, less, c.requires.many)) c.index-before-outer.is) in
     IfOk-weaker c.and.result (Represents last (λ values. meaning between around values && meaning between chosen values)) (Tells last levels (λ w. is_active s w node))
-    (λ r h. told_both between last levels (λ w. is_active s w outer) (λ w. is_chosen s w component node) (λ w. is_active s w node) around chosen r
+    (λ r h. told_both between last levels (λ w. is_active s w outer) (λ w. has_child s w component node) (λ w. is_active s w node) around chosen r
     (λ values. both_active s c.requires.checked node outer component (world_of levels.spec levels.slots values) c.requires.node c.in-Some.ensures c.in-Some-component_of.ensures (c.requires.choices values))
     (tells_keeps c.args.arena.now between levels (λ w. is_active s w outer) around c.where_chosen.ensures.keeps told_around) c.in_ok-chosen.ensures.answer h)
     c.and.ensures.answer
