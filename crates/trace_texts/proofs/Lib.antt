@@ -1,6 +1,6 @@
 pub mod EventTexts
 pub mod FieldTexts
+pub mod FirstTexts
 pub mod ItemTexts
 pub mod RoundTexts
 pub mod SendTexts
-pub mod TakeLineTexts

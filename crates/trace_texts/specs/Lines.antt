@@ -1,14 +1,17 @@
 -- The lines of a round by the numbers of its events, transitions and cases of sends.
-use Rattle.std.specs.Prelude.{◌≡◌, ℕ, List, [], ◌++◌, ℤ, flat_map, codes, Some, slice_get, slice_index_or}
+use Rattle.std.specs.Prelude.{◌≡◌, ℕ, List, [], ◌++◌, ℤ, map, flat_map, codes, Some, slice_get, slice_index_or}
 use Rattle.std.specs.Option.{option_map_or}
 use Rattle.rsml_syntax.specs.declared.syntax.Spec.{Spec}
 use Rattle.rsml_meaning.specs.Words.{Instance, numbered_from}
-use Rattle.rsml_meaning.specs.Instances.{globals_of}
+use Rattle.rsml_meaning.specs.Instances.{globals_of, events}
 use Rattle.rsml_meaning.specs.Transitions.{transitions}
-use Rattle.rsml_meaning.specs.Interfaces.{sends, send_cases}
+use Rattle.rsml_meaning.specs.Interfaces.{receives, sends, send_cases}
 use Rattle.rsml_meaning.specs.Texts.{Text, text_line, instance_text, label, value_text}
 use Rattle.rsml_meaning.specs.Trace.{names_of_kind, value_kind, send_line}
 use Rattle.instance_texts.specs.SentCases.{sent_value, sent_field}
+use Rattle.trace_texts.specs.declared.part.Part.{Part}
+use Rattle.trace_texts.specs.declared.part.Part.TheVariants as part
+use Rattle.trace_texts.specs.declared.line_parts.LineParts.{LineParts}
 
 -- an event behind a space
 abbrev pub spaced : Instance → Text
@@ -22,11 +25,39 @@ take_line s k = option_map_or (λ t. text_line (codes "    take " ++ label t)) (
 abbrev pub AreTakeLines : Spec → List Text → Type 0
 AreTakeLines s lines = (k : ℕ) (line : Text) → slice_get lines k ≡ Some line → line ≡ take_line s k
 
--- these texts and lines are those of a specification
-pub record AreTextsOf (s texts sent : Spec) (lines : List Text) : Type 0 where
+-- the instance of this number, where there is one
+abbrev pub name_at : List Instance → ℕ → Text
+name_at xs k = option_map_or instance_text (slice_get xs k) []
+
+-- the same behind a space
+abbrev pub spaced_at : List Instance → ℕ → Text
+spaced_at xs k = codes " " ++ name_at xs k
+
+-- the part of a line that names the instance of this number: how the line of a receive or of a round ends, that of a first round with one
+-- event, or how that of a send begins
+abbrev pub part_text : Part → Spec → ℕ → Text
+part_text part.Receive s k = text_line (spaced_at (map (λ r. r.receive) (receives s)) k)
+part_text part.Event s k = text_line (spaced_at (events s) k)
+part_text part.First s k = text_line (codes "  round 1" ++ spaced_at (events s) k)
+part_text part.Send s k = codes "    send " ++ name_at (sends s) k
+
+-- these are the texts of a part that name the first so many instances, each at the place of its number
+abbrev pub ArePartTexts : Part → Spec → List Text → Type 0
+ArePartTexts p s texts = (k : ℕ) (text : Text) → slice_get texts k ≡ Some text → text ≡ part_text p s k
+
+-- these are those of each part
+pub record AreParts (s : Spec) (parts : LineParts) : Type 0 where
+  pub receives_are : ArePartTexts part.Receive s parts.receives
+  pub events_are : ArePartTexts part.Event s parts.events
+  pub firsts_are : ArePartTexts part.First s parts.firsts
+  pub sends_are : ArePartTexts part.Send s parts.sends
+
+-- these texts, lines and parts are those of a specification
+pub record AreTextsOf (s texts sent : Spec) (lines : List Text) (parts : LineParts) : Type 0 where
   pub texts_are : texts ≡ s
   pub sent_are : sent ≡ s
   pub lines_are : AreTakeLines s lines
+  pub parts_are : AreParts s parts
 
 -- a number that is sent in the field at a place of the case of this number, where there is one
 abbrev pub number_at : Spec → ℕ → ℕ → ℤ → Text

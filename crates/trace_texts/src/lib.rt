@@ -3,6 +3,9 @@
 
 mod events;
 mod fields;
+mod line_parts;
+mod part;
+mod part_texts;
 mod sends;
 mod take_lines;
 mod takes;

@@ -10,6 +10,7 @@ ghost use Rattle.text_writer.specs.Writes.{Writes};
 ghost use Rattle.trace_texts.specs.Rounds.{IsRoundOf};
 
 use crate::events::{put_event_line, put_round_line};
+use crate::line_parts::LineParts;
 use crate::sends::put_sends;
 use crate::take_lines::TakeLines;
 use elaborate::Machine;
@@ -27,6 +28,7 @@ pub struct Traces<'m, 'a> {
     texts: Texts<'a>,
     sent: SentTexts<'a>,
     lines: TakeLines,
+    parts: LineParts,
 }
 
 impl<'m, 'a> Model for Traces<'m, 'a> {
@@ -41,7 +43,7 @@ impl<'m, 'a> Model for Traces<'m, 'a> {
 
     ghost view = { λ t. t.machine.now };
 
-    ghost invariant = { λ t. AreTextsOf t.machine.now.base.spec t.texts t.sent t.lines };
+    ghost invariant = { λ t. AreTextsOf t.machine.now.base.spec t.texts t.sent t.lines t.parts };
 }
 
 impl<'m, 'a> Traces<'m, 'a> {
@@ -57,11 +59,13 @@ impl<'m, 'a> Traces<'m, 'a> {
         let texts = Texts::build(alloc, checked)?;
         let sent = SentTexts::build(alloc, checked)?;
         let lines = TakeLines::new(alloc, machine)?;
+        let parts = LineParts::new(alloc, &texts, machine)?;
         Ok(Traces {
             machine,
             texts,
             sent,
             lines,
+            parts,
         })
     }
 
@@ -80,7 +84,7 @@ impl<'m, 'a> Traces<'m, 'a> {
             → Writes (W.state writer.old) (W.text writer.old) (event_line number x.receive)
             (W.state writer.new) (W.text writer.new) }
     {
-        put_event_line(writer, &self.texts, number, receive);
+        put_event_line(writer, &self.texts, &self.parts.receives, number, receive);
     }
 
     /// Writes a round of a step with its number, counted from 1: what was present, and what the micro-step took and sent.
@@ -98,9 +102,16 @@ impl<'m, 'a> Traces<'m, 'a> {
             (W.state writer.new) (W.text writer.new) }
     {
         let machine = self.machine;
-        put_round_line(writer, &self.texts, machine.events(), number, present);
+        let LineParts {
+            events: ends,
+            firsts,
+            ..
+        } = &self.parts;
+        let count = machine.events();
+        put_round_line(writer, &self.texts, ends, firsts, count, number, present);
         self.lines.put_lines(writer, machine, scratch.taken());
-        put_sends(writer, machine, &self.texts, &self.sent, scratch);
+        let starts = &self.parts.sends;
+        put_sends(writer, machine, &self.texts, starts, &self.sent, scratch);
     }
 
     /// Writes the last line: how many events there were.
