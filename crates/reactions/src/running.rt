@@ -72,6 +72,8 @@ impl<'m, 'a> Running<'m, 'a> {
         ensures machine { IfOk result (λ r. r.machine ≡ machine.now) }
         ensures first { IfOk result (λ r. r.world ≡ first_world checked.now) }
         ensures last { IfOk result (λ r. r.last.world ≡ first_world checked.now) }
+        ensures none_taken { IfOk result (λ r. r.last.taken ≡ []) }
+        ensures none_sent { IfOk result (λ r. r.last.sent ≡ []) }
         ensures none { IfOk result (λ r. r.present ≡ []) }
     {
         let traces = Traces::new(alloc, checked, machine)?;

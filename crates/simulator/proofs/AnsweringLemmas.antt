@@ -283,13 +283,15 @@ kept_final upcoming.TooLong = tt
 -- What a simulation keeps true.
 
 -- one that begins
-pub new_is : (t : Turning) (r : Reading) (s : Spec) (limits : Limits) → t.spec ≡ s → t.world ≡ first_world s → t.last.world ≡ first_world s → t.present ≡ [] → t.events ≡ 0
-    → r ≡ new_reading limits → IsNew (simulation_of t r None)
-new_is t r s limits spec first last none uncounted unread = record {
+pub new_is : (t : Turning) (r : Reading) (s : Spec) (limits : Limits) → t.spec ≡ s → t.world ≡ first_world s → t.last.world ≡ first_world s → t.last.taken ≡ [] → t.last.sent ≡ [] → t.present ≡ []
+    → t.events ≡ 0 → r ≡ new_reading limits → IsNew (simulation_of t r None)
+new_is t r s limits spec first last none_taken none_sent none uncounted unread = record {
   unread = unread ∙ ap new_reading (sym (ap (λ (z : Reading). z.limits) unread));
   unanswered = refl;
   first = first ∙ ap first_world (sym spec);
   last = last ∙ ap first_world (sym spec);
+  none_taken = none_taken;
+  none_sent = none_sent;
   none = none;
   uncounted = uncounted;
 }

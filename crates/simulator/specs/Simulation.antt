@@ -27,11 +27,13 @@ pub record Simulation : Type 0 where
   -- the last round
   pub last : LastRound
 
--- Nothing was read, no event came, and it is in the first world, as it was before.
+-- Nothing was read, no event came, and it is in the first world, as it was before. No round was done: none took or sent anything.
 pub record IsNew (m : Simulation) : Type 0 where
   pub unread : m.reading ≡ new_reading m.limits
   pub unanswered : m.answered ≡ None
   pub first : m.world ≡ first_world m.spec
   pub last : m.last.world ≡ first_world m.spec
+  pub none_taken : m.last.taken ≡ []
+  pub none_sent : m.last.sent ≡ []
   pub none : m.present ≡ []
   pub uncounted : m.events ≡ 0

@@ -8,9 +8,13 @@ ghost use Rattle.simulator.specs.helpers.Skipping.{AnswersBehind};
 use event_file::{LineReader, Next, skipped};
 use rsml_io::Files;
 
-/// Whether a whole line is held that is not skipped, so that no more is read for the next event.
+/// How many bytes a line may have at most. Where more are held, nothing is read to tell the next line.
+const LONGEST: usize = 4096;
+
+/// Whether a line that is not skipped is held as far as it is told, so that no more is read for the next event.
 pub fn holds_event(reader: &LineReader) -> bool {
-    reader.holds_line() && !begins_skipped(reader.held())
+    let held = reader.held();
+    (held.len() > LONGEST || reader.holds_line()) && !begins_skipped(held)
 }
 
 /// Whether bytes begin with a line that is skipped, or might be one: their first byte that is no space or tab ends a line, or is `#`.

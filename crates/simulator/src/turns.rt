@@ -84,6 +84,8 @@ impl<'m, 'a> Turns<'m, 'a> {
         ensures spec { IfOk result (λ t. t.spec ≡ checked.now) }
         ensures first { IfOk result (λ t. t.world ≡ first_world checked.now) }
         ensures last { IfOk result (λ t. t.last.world ≡ first_world checked.now) }
+        ensures none_taken { IfOk result (λ t. t.last.taken ≡ []) }
+        ensures none_sent { IfOk result (λ t. t.last.sent ≡ []) }
         ensures none { IfOk result (λ t. t.present ≡ []) }
         ensures uncounted { IfOk result (λ t. t.events ≡ 0) }
     {

@@ -15,7 +15,7 @@ invariant_of-result c =
     let m = c.args.machine.now in
     let s = m.base.spec in
     let w = c.in_ok-world.world in
-    let nothing = c.in_ok-scratch.ensures.none in
+    let nothing = c.in_ok-scratch.ensures.none_taken in
     let held : c.in_ok-waiting.waiting.message ≡ None = ap (λ (h : Held). h.message) c.in_ok-waiting.ensures in
     record {
       traced = c.in_ok-traces.ensures;
@@ -36,7 +36,7 @@ invariant_of-result c =
 pub returns-clause-first : goal.returns-clause-first
 returns-clause-first c =
     let held : c.in_ok-waiting.waiting.message ≡ None = ap (λ (h : Held). h.message) c.in_ok-waiting.ensures in
-    first_settled c.args.machine.now c.in_ok-world.world c.in_ok-scratch.scratch.taken.items c.in_ok-waiting.waiting.message c.in_ok-scratch.ensures.none held
+    first_settled c.args.machine.now c.in_ok-world.world c.in_ok-scratch.scratch.taken.items c.in_ok-waiting.waiting.message c.in_ok-scratch.ensures.none_taken held
     ∙ c.in_ok-world.ensures.first ∙ ap first_world c.requires.machine
 
 pub returns-clause-none : goal.returns-clause-none

@@ -23,9 +23,9 @@ invariant_of-result c =
 pub returns-clause-new : goal.returns-clause-new
 returns-clause-new c =
     let t = c.in_ok-turns.ensures in
-    new_is c.in_ok-turns.turns c.in_ok-reader.reader c.args.checked.now (limits_of c.args.limits) t.spec t.first t.last t.none t.uncounted c.in_ok-reader.ensures.new
+    new_is c.in_ok-turns.turns c.in_ok-reader.reader c.args.checked.now (limits_of c.args.limits) t.spec t.first t.last t.none_taken t.none_sent t.none t.uncounted c.in_ok-reader.ensures.new
 
 pub returns-clause-fits : goal.returns-clause-fits
 returns-clause-fits c = λ content.
     let t = c.in_ok-turns.ensures in
-    new_fits_file content _ (new_is c.in_ok-turns.turns c.in_ok-reader.reader c.args.checked.now (limits_of c.args.limits) t.spec t.first t.last t.none t.uncounted c.in_ok-reader.ensures.new)
+    new_fits_file content _ (new_is c.in_ok-turns.turns c.in_ok-reader.reader c.args.checked.now (limits_of c.args.limits) t.spec t.first t.last t.none_taken t.none_sent t.none t.uncounted c.in_ok-reader.ensures.new)
