@@ -1,5 +1,7 @@
 -- How a guard is asked is what it says.
-use Rattle.std.proofs.Common.{◌≡◌, ℕ, suc, ◌<◌, Bool, true, false, not, ◌&&◌, ◌||◌, List, [], ◌∷◌, map, length, get_or, slice_index_or, refl, sym, ap, ◌∙◌, subst, arith}
+use Rattle.std.proofs.Common.{◌≡◌, ℕ, suc, ◌<◌, Bool, true, false, not, ◌&&◌, ◌||◌, List, [], ◌∷◌, map, length, get_or, slice_index_or, refl, sym, ap, ◌∙◌, subst, nat_eq, true≢false, arith}
+use Rattle.std.specs.Cmp.{first_so, second_so}
+use Rattle.std.specs.Cmp.Lexicographic.{pointwise}
 use Rattle.std.specs.List.{list_any, All}
 use Rattle.std.proofs.lemmas.List.Folds.{list_all-append}
 use Rattle.std.proofs.lemmas.List.Elements.{All-cons, All-append, All-map}
@@ -12,6 +14,8 @@ use Rattle.and_or_tables.specs.Ground.{known, ground_row, ground_table}
 use Rattle.and_or_tables.specs.Shape.{PhrasesBelow, cells_of, columns}
 use Rattle.and_or_tables.proofs.Columns.{width-ground}
 use Rattle.prepared_phrases.specs.declared.asked.Literal.{Literal}
+use Rattle.prepared_phrases.specs.contracts.asked.LiteralPartialEq.TheImpl as literal_eq
+use Rattle.rsml_meaning.proofs.Same.{nat_same}
 use Rattle.prepared_phrases.specs.Asked.{literal_truth, column_truth, columns_truth, wants, column_of, columns_of, ColumnBelow}
 
 -- The truths of columns.
@@ -80,6 +84,38 @@ first_many table rows row some same = ap (λ (rs : List GroundRow). length (get_
     by : (rs : List GroundRow) → 0 < length rs → length (get_or rs 0 row).cells ≡ columns (map (λ r. r.cells) rs)
     by [] l = absurd (omega (arith, l))
     by (r ∷ rs) l = refl
+
+-- Columns that are compared as equal are the same.
+
+abbrev equal_literals : Literal → Literal → Bool
+equal_literals x y = (literal_eq.ghosts).eq x y
+
+new_literal : ℕ → Bool → Literal
+new_literal phrase wanted = record { phrase = phrase; wanted = wanted }
+
+literal_same : (x y : Literal) → equal_literals x y ≡ true → x ≡ y
+unfolding new_literal
+literal_same x y h = by x.phrase y.phrase x.wanted y.wanted h
+  where
+    by : (p q : ℕ) (a b : Bool) → equal_literals (record { phrase = p; wanted = a }) (record { phrase = q; wanted = b }) ≡ true → new_literal p a ≡ new_literal q b
+    by p q true true h = ap (λ (n : ℕ). new_literal n true) (nat_same p q (first_so (nat_eq p q) true h))
+    by p q false false h = ap (λ (n : ℕ). new_literal n false) (nat_same p q (first_so (nat_eq p q) true h))
+    by p q true false h = absurd (true≢false (sym (second_so (nat_eq p q) false h)))
+    by p q false true h = absurd (true≢false (sym (second_so (nat_eq p q) false h)))
+
+column_same : (xs ys : List Literal) → pointwise equal_literals xs ys ≡ true → xs ≡ ys
+column_same [] [] h = refl
+column_same (x ∷ xs) (y ∷ ys) h = λ i. literal_same x y (first_so (equal_literals x y) (pointwise equal_literals xs ys) h) i ∷ column_same xs ys (second_so (equal_literals x y) (pointwise equal_literals xs ys) h) i
+column_same [] (y ∷ ys) h = absurd (true≢false (sym h))
+column_same (x ∷ xs) [] h = absurd (true≢false (sym h))
+
+pub columns_same : {A : Type 0} (f : A → List Literal) (xs ys : List A) → pointwise (λ x y. pointwise equal_literals (f x) (f y)) xs ys ≡ true → map f xs ≡ map f ys
+columns_same f [] [] h = refl
+columns_same f (x ∷ xs) (y ∷ ys) h =
+    let rest = pointwise (λ v w. pointwise equal_literals (f v) (f w)) xs ys in
+    λ i. column_same (f x) (f y) (first_so (pointwise equal_literals (f x) (f y)) rest h) i ∷ columns_same f xs ys (second_so (pointwise equal_literals (f x) (f y)) rest h) i
+columns_same f [] (y ∷ ys) h = absurd (true≢false (sym h))
+columns_same f (x ∷ xs) [] h = absurd (true≢false (sym h))
 
 -- One literal alone.
 

@@ -1,4 +1,4 @@
-ghost use Rattle.std.specs.Prelude.{◌≡◌, ◌<◌, ◌++◌, ◌∷◌, [], ℕ, All, Bool, IfOk, IfSome, List, OnOk, length, map};
+ghost use Rattle.std.specs.Prelude.{◌≡◌, ◌<◌, ◌++◌, ◌∷◌, [], ℕ, All, Bool, IfOk, IfSome, List, OnOk, length, map, true};
 ghost use Rattle.and_or_tables.specs.Shape.{IsTable, PhrasesBelow};
 ghost use Rattle.macros.specs.Guards.{GuardBelow, HasShape};
 ghost use Rattle.rsml_ground.specs.declared.definitions.GroundGuard.TheVariants as guards;
@@ -15,7 +15,7 @@ use std::alloc::Global;
 const MOST: usize = 64;
 
 /// A phrase, and whether it is wanted to be true or false.
-#[derive(Clone, Copy)]
+#[derive(Clone, Copy, PartialEq, Eq)]
 pub struct Literal {
     pub phrase: u32,
     pub wanted: bool,
@@ -134,6 +134,18 @@ impl Asked {
         match guard {
             GroundGuard::Always => always(alloc),
             GroundGuard::Table(table) => of_table(alloc, table),
+        }
+    }
+
+    /// Whether both are asked column by column, and their columns are the same.
+    pub fn has_columns_of(&self, other: &Asked) -> bool
+        ensures { result ≡ true → (truths : List Bool) → asked_truth truths self.now ≡ asked_truth truths other.now }
+    {
+        match (self, other) {
+            (Asked::Columns(columns), Asked::Columns(others)) => {
+                columns.as_slice() == others.as_slice()
+            }
+            _ => false,
         }
     }
 }
