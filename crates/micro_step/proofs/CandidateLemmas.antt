@@ -1,8 +1,8 @@
 -- Candidates that are met are those whose transitions, or cases of sends, are enabled.
 use Rattle.std.proofs.Common.{◌≡◌, ℕ, zero, suc, ◌+◌, ◌<◌, ◌≤◌, ◌==◌, ◌||◌, ◌&&◌, Bool, true, false, List, [], ◌∷◌, ◌++◌, map, length, Some, None, Option, slice_get, slice_index_or, take, ◌⊎◌, inl, inr, ⊎_elim, refl, sym, ap, ◌∙◌, subst, arith}
 use Rattle.std.specs.List.{list_any, All}
-use Rattle.std.specs.Option.{option_map_or}
-use Rattle.std.proofs.lemmas.Bool.{eqb-true, cases_lt}
+use Rattle.std.specs.Option.{option_map_or, IfSome}
+use Rattle.std.proofs.lemmas.Bool.{eqb-true}
 use Rattle.std.proofs.lemmas.Option.{same_Some}
 use Rattle.std.proofs.lemmas.List.{take_more, take_all, map_push, length_push}
 use Rattle.std.proofs.lemmas.List.Elements.{All-push}
@@ -13,10 +13,11 @@ use Rattle.state_tree.proofs.Lists.{get_within, within_get, beside}
 use Rattle.state_tree.proofs.Kin.{get_index}
 use Rattle.rsml_meaning.specs.Transitions.{transitions}
 use Rattle.rsml_meaning.specs.Interfaces.{send_cases}
+use Rattle.and_or_tables.specs.Ground.{known}
 use Rattle.rsml_ground.specs.declared.definitions.GroundGuard.{GroundGuard}
 use Rattle.rsml_ground.specs.declared.definitions.GroundGuard.TheVariants as guards
 use Rattle.rsml_ground.specs.Rests.{GuardFits}
-use Rattle.rsml_ground.specs.Truths.{is_active, guard_truth, truths_in}
+use Rattle.rsml_ground.specs.Truths.{guard_truth, truths_in}
 use Rattle.macros.specs.Guards.{GuardBelow, HasShape}
 use Rattle.ground_members.specs.declared.transitions.GroundTransition.{GroundTransition}
 use Rattle.ground_members.specs.declared.send_cases.GroundSendCase.{GroundSendCase}
@@ -25,10 +26,11 @@ use Rattle.elaborate.specs.Machine.{GroundMachine, StandsFor}
 use Rattle.elaborate.specs.OnEvents.{places_of}
 use Rattle.elaborate.specs.Enabled.{is_enabled, is_sending}
 use Rattle.micro_step.specs.declared.candidates.Candidate.{Candidate}
-use Rattle.prepared_phrases.specs.Asked.{AsksFor, asked_truth}
-use Rattle.micro_step.specs.Candidates.{Fits, TellsOf, AreFor, AreOnEvents, is_met}
+use Rattle.prepared_phrases.specs.declared.asked.Asked.{Asked}
+use Rattle.prepared_phrases.specs.Asked.{AsksFor}
+use Rattle.micro_step.specs.Candidates.{Fits, HasGuardOf, TellsOf, AreFor, AreOnEvents, is_met}
 use Rattle.state_choices.specs.Choices.{AreOfComponents, TellActivity, are_chosen}
-use Rattle.micro_step.specs.Places.{passes, places_where}
+use Rattle.micro_step.specs.Places.{passes}
 use Rattle.micro_step.specs.Rising.{among}
 use Rattle.micro_step.proofs.LoopLemmas.{on_event}
 use Rattle.micro_step.proofs.MicroLemmas.{choices_are}
@@ -118,10 +120,23 @@ case_shape m k x stands at =
     let r = beside (SendCaseIs m.base.phrases m.base.spec) (send_cases m.base.spec) m.send_cases k x stands.cases_are at in
     shape_of (length m.base.phrases) x.guard r.2.fits
 
+known_map : {A : Type 0} (f : A → Bool) (xs : List A) (k : ℕ) (x : A) → slice_get xs k ≡ Some x → known (map f xs) k ≡ f x
+known_map f [] k x e = absurd (let no : ⊥ = cc in no)
+known_map f (y ∷ xs) zero x e = ap f (same_Some y x e)
+known_map f (y ∷ xs) (suc k) x e = known_map f xs k x e
+
+-- the truth of a transition's guard can be kept at its own number
+pub own_guard : (m : GroundMachine) (number : ℕ) (x : GroundTransition) (a : Asked) → slice_get m.transitions number ≡ Some x → AsksFor (length m.base.phrases) x.guard a → HasGuardOf m a number
+own_guard m number x a at asks = record {
+  there = get_within m.transitions number x at;
+  right = λ w. asks.right (truths_in m.base w) ∙ sym (known_map (λ (y : GroundTransition). guard_truth (truths_in m.base w) y.guard) m.transitions number x at);
+}
+
 pub tells_of_transition : (m : GroundMachine) (c : Candidate) (x : GroundTransition) → slice_get m.transitions c.number ≡ Some x
-    → AreOfComponents m.base.spec c.choices.items → TellActivity m.base.spec x.source c.choices.items → AsksFor (length m.base.phrases) x.guard c.asked → TellsOf m (is_enabled m) m.transitions c
-tells_of_transition m c x at components active asks = record {
-  fits = record { components = components; phrases = asks.below };
+    → AreOfComponents m.base.spec c.choices.items → TellActivity m.base.spec x.source c.choices.items → AsksFor (length m.base.phrases) x.guard c.asked
+    → IfSome c.kept_at (HasGuardOf m c.asked) → TellsOf m (is_enabled m) m.transitions c
+tells_of_transition m c x at components active asks kept = record {
+  fits = record { components = components; phrases = asks.below; kept_at = kept };
   below = get_within m.transitions c.number x at;
   right = λ w world.
       (λ i. active w (choices_are m.base.spec w world) i && asks.right (truths_in m.base w) i)
@@ -129,9 +144,9 @@ tells_of_transition m c x at components active asks = record {
 }
 
 pub tells_of_case : (m : GroundMachine) (c : Candidate) (x : GroundSendCase) → slice_get m.send_cases c.number ≡ Some x
-    → c.choices.items ≡ [] → AsksFor (length m.base.phrases) x.guard c.asked → TellsOf m (is_sending m) m.send_cases c
-tells_of_case m c x at none asks = record {
-  fits = record { components = subst (AreOfComponents m.base.spec) (sym none) (λ k d l. absurd (omega (arith, l))); phrases = asks.below };
+    → c.choices.items ≡ [] → AsksFor (length m.base.phrases) x.guard c.asked → IfSome c.kept_at (HasGuardOf m c.asked) → TellsOf m (is_sending m) m.send_cases c
+tells_of_case m c x at none asks kept = record {
+  fits = record { components = subst (AreOfComponents m.base.spec) (sym none) (λ k d l. absurd (omega (arith, l))); phrases = asks.below; kept_at = kept };
   below = get_within m.send_cases c.number x at;
   right = λ w world.
       (λ i. are_chosen w.choices (none i) && asks.right (truths_in m.base w) i)

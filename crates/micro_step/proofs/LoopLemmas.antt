@@ -1,13 +1,12 @@
 -- One turn of each loop, and what is there for it.
-use Rattle.std.proofs.Common.{◌≡◌, ℕ, zero, suc, ◌+◌, ◌<◌, ◌≤◌, ◌==◌, ◌||◌, ◌&&◌, Bool, true, false, List, [], ◌∷◌, ◌++◌, map, fold, take, drop, length, replicate, get_or, set, Some, None, Option, if◌then◌else◌, slice_get, ℤ, ⊎_elim, refl, sym, ap, ◌∙◌, subst, true≢false, arith}
+use Rattle.std.proofs.Common.{◌≡◌, ℕ, zero, suc, ◌+◌, ◌<◌, ◌≤◌, ◌==◌, ◌||◌, Bool, true, false, List, [], ◌∷◌, ◌++◌, map, fold, take, drop, length, replicate, get_or, set, Some, None, Option, if◌then◌else◌, slice_get, ℤ, ⊎_elim, refl, sym, ap, ◌∙◌, subst, true≢false, arith}
 use Rattle.std.specs.List.{list_any, AllZip}
 use Rattle.std.specs.Option.{option_map_or}
 use Rattle.std.proofs.lemmas.Bool.{cases_eq}
 use Rattle.std.specs.Cmp.{nat_eq_equiv}
-use Rattle.std.proofs.lemmas.List.{take_more, take_all}
+use Rattle.std.proofs.lemmas.List.{take_more}
 use Rattle.state_tree.proofs.Kin.{get_index}
 use Rattle.std.proofs.lemmas.Option.{same_Some}
-use Rattle.rsml_syntax.specs.declared.syntax.Spec.{Spec}
 use Rattle.rsml_syntax.specs.declared.world.World.{World}
 use Rattle.rsml_syntax.specs.declared.syntax.Value.{Value}
 use Rattle.rsml_syntax.specs.declared.syntax.Value.TheVariants as values
@@ -15,13 +14,9 @@ use Rattle.rsml_syntax.specs.declared.syntax.Answer.{Answer}
 use Rattle.rsml_syntax.specs.declared.syntax.Answer.TheVariants as answers
 use Rattle.rsml_syntax.specs.limits.Comparisons.{Indices}
 use Rattle.rsml_meaning.specs.Words.{Each}
-use Rattle.rsml_meaning.specs.Instances.{components}
-use Rattle.rsml_meaning.specs.Active.{enter}
 use Rattle.rsml_meaning.specs.Truth.{within}
 use Rattle.rsml_meaning.specs.Interfaces.{send_cases, definitions, function_cases}
-use Rattle.state_tree.specs.Numbers.{component_path, path_of}
-use Rattle.state_tree.proofs.Entry.{after_long}
-use Rattle.state_tree.proofs.Lists.{get_within, within_get, beside, as_long, zip_push}
+use Rattle.state_tree.proofs.Lists.{get_within, beside, as_long, zip_push}
 use Rattle.state_tree.proofs.Fitting.{from_number}
 use Rattle.rsml_ground.specs.StandsFor.{DefinitionIs}
 use Rattle.rsml_ground.proofs.DeclaredLemmas.{beside_first}
@@ -34,13 +29,11 @@ use Rattle.ground_members.specs.declared.send_cases.GroundAnswer.TheVariants as 
 use Rattle.ground_members.specs.Members.{SendCaseIs, AnswerIs, ValueIs}
 use Rattle.elaborate.specs.Machine.{GroundMachine, StandsFor}
 use Rattle.elaborate.specs.OnEvents.{places_of}
-use Rattle.elaborate.specs.Enabled.{is_enabled, is_sending}
-use Rattle.rsml_ground.specs.declared.definitions.GroundGuard.{GroundGuard}
-use Rattle.rsml_ground.specs.Truths.{Grounded, is_active, guard_truth, truths_in}
+use Rattle.rsml_ground.specs.Truths.{Grounded}
 use Rattle.macros.specs.Known.{Knows}
 use Rattle.micro_step.specs.Rising.{among}
 use Rattle.micro_step.specs.Places.{passes, places_where}
-use Rattle.micro_step.specs.Numbers.{raised_at, after_move, after_number, value_number, values_of, case_numbers, AreOfCase, HaveRoom, ValueFits, picked}
+use Rattle.micro_step.specs.Numbers.{raised_at, value_number, values_of, case_numbers, AreOfCase, HaveRoom, ValueFits, picked}
 use Rattle.micro_step.proofs.RisingLemmas.{or_group, no_more}
 use Rattle.micro_step.proofs.PlaceLemmas.{among_places}
 
@@ -120,20 +113,6 @@ raised_by_one m k q x ks b at e =
 -- one more transition
 pub entered_more : {B : Type 0} (f : B → ℕ → B) (a : B) (ks : List ℕ) (i k : ℕ) → i < length ks → k ≡ get_or ks i 0 → fold f (f a k) (drop (i + 1) ks) ≡ fold f a (drop i ks)
 entered_more f a ks i k l e = ap (λ (n : ℕ). fold f (f a n) (drop (i + 1) ks)) e ∙ ap (fold f a) (sym (from_number ks i l))
-
-pub after_number_long : (m : GroundMachine) (choices : List ℕ) (k : ℕ) → length choices ≡ length (components m.base.spec) → length (after_number m choices k) ≡ length (components m.base.spec)
-after_number_long m choices k h = by (slice_get m.transitions k)
-  where
-    s : Spec
-    s = m.base.spec
-
-    by_target : (x : GroundTransition) (o : Option ℕ) → length {A = ℕ} (elim o [ None ↦ choices | Some target ↦ enter s (component_path s x.component) (path_of s target) choices ]) ≡ length (components s)
-    by_target x None = h
-    by_target x (Some target) = after_long s (component_path s x.component) (path_of s target) choices h ∙ h
-
-    by : (o : Option GroundTransition) → length (option_map_or (after_move m choices) o choices) ≡ length (components s)
-    by None = h
-    by (Some x) = by_target x x.target
 
 -- Values.
 
@@ -250,31 +229,6 @@ cases_more m w sent i k lists new ns l e room h is each =
 
 -- Enabled transitions.
 
--- a transition with an active source is enabled where its guard is true
-pub enabled_when : (m : GroundMachine) (w : World) (k : ℕ) (guard : GroundGuard) (b : Bool) → k < length m.transitions → ((x : GroundTransition) → slice_get m.transitions k ≡ Some x → guard ≡ x.guard)
-    → true ≡ passes (λ x. is_active m.base.spec w x.source) m.transitions k → b ≡ guard_truth (truths_in m.base w) guard → b ≡ passes (is_enabled m w) m.transitions k
-enabled_when m w k guard b l is active truth =
-    let x = within_get m.transitions k l in
-    let on = active ∙ ap (λ (o : Option GroundTransition). option_map_or (λ y. is_active m.base.spec w y.source) o false) x.1 in
-    truth ∙ ap (guard_truth (truths_in m.base w)) (is x.0 x.1)
-    ∙ ap (λ (z : Bool). z && guard_truth (truths_in m.base w) x.0.guard) on
-    ∙ sym (ap (λ (o : Option GroundTransition). option_map_or (is_enabled m w) o false) x.1)
-
--- one without is not
-pub not_enabled : (m : GroundMachine) (w : World) (k : ℕ) → k < length m.transitions → false ≡ passes (λ x. is_active m.base.spec w x.source) m.transitions k → false ≡ passes (is_enabled m w) m.transitions k
-not_enabled m w k l active =
-    let x = within_get m.transitions k l in
-    let off = active ∙ ap (λ (o : Option GroundTransition). option_map_or (λ y. is_active m.base.spec w y.source) o false) x.1 in
-    ap (λ (z : Bool). z && guard_truth (truths_in m.base w) x.0.guard) off
-    ∙ sym (ap (λ (o : Option GroundTransition). option_map_or (is_enabled m w) o false) x.1)
-
--- a case of a send is enabled where its guard is true
-pub sending_when : (m : GroundMachine) (w : World) (k : ℕ) (guard : GroundGuard) (b : Bool) → k < length m.send_cases → ((x : GroundSendCase) → slice_get m.send_cases k ≡ Some x → guard ≡ x.guard)
-    → b ≡ guard_truth (truths_in m.base w) guard → b ≡ passes (is_sending m w) m.send_cases k
-sending_when m w k guard b l is truth =
-    let x = within_get m.send_cases k l in
-    truth ∙ ap (guard_truth (truths_in m.base w)) (is x.0 x.1) ∙ sym (ap (λ (o : Option GroundSendCase). option_map_or (is_sending m w) o false) x.1)
-
 -- What is left of a list.
 
 pub no_rest : (ks : List ℕ) (i : ℕ) → length ks ≤ i → drop i ks ≡ []
@@ -326,10 +280,6 @@ room_more cs i x lists new ns at long room e =
     let front = take_more cs i x (get_within cs i x at) ∙ ap (λ (d : GroundSendCase). take i cs ++ d ∷ []) (get_index cs i x x at) in
     subst (λ (ls : List (List ℤ)). AllZip HasLength (take (i + 1) cs) ls) (sym e)
     (subst (λ (xs : List GroundSendCase). AllZip HasLength xs (lists ++ ns ∷ [])) (sym front) (zip_push HasLength (take i cs) lists x ns room long))
-
-pub room_all : (cs : List GroundSendCase) (i : ℕ) (lists : List (List ℤ)) → length cs ≤ i → AllZip (λ (x : GroundSendCase) (ns : List ℤ). length ns ≡ length (values_of x.answer)) (take i cs) lists
-    → AllZip (λ (x : GroundSendCase) (ns : List ℤ). length ns ≡ length (values_of x.answer)) cs lists
-room_all cs i lists l room = subst (λ (xs : List GroundSendCase). AllZip HasLength xs lists) (take_all i cs l) room
 
 -- Lists that are kept.
 

@@ -1,14 +1,13 @@
 -- Places of the items that pass, gathered one event after another.
-use Rattle.std.proofs.Common.{◌≡◌, ℕ, zero, suc, ◌+◌, ◌<◌, ◌≤◌, ◌==◌, ◌||◌, ◌&&◌, Bool, true, false, List, [], ◌∷◌, ◌++◌, filter, take, length, get_or, Some, None, Option, if◌then◌else◌, slice_get, ⊎_elim, ◌⊎◌, inl, inr, refl, sym, ap, ◌∙◌, subst, true≢false, arith, nat_lt}
+use Rattle.std.proofs.Common.{◌≡◌, ℕ, zero, suc, ◌+◌, ◌<◌, ◌≤◌, ◌==◌, ◌||◌, ◌&&◌, Bool, true, false, List, [], ◌∷◌, filter, Some, None, Option, if◌then◌else◌, slice_get, ⊎_elim, ◌⊎◌, inl, inr, refl, sym, ap, ◌∙◌, subst, true≢false, arith, nat_lt}
 use Rattle.std.specs.List.{AllZip}
 use Rattle.std.specs.Option.{option_map_or}
 use Rattle.std.proofs.lemmas.Bool.{eqb-true, ne_eqb, cases_eq, cases_lt, lt-ltb, le-ltb}
-use Rattle.std.proofs.lemmas.List.{take_more, take_all}
 use Rattle.std.specs.Cmp.{nat_eq_equiv}
 use Rattle.rsml_meaning.specs.Words.{Each}
 use Rattle.micro_step.specs.Rising.{AreRising, among}
 use Rattle.micro_step.specs.Places.{passes, places_where, items_where, ArePlaces}
-use Rattle.micro_step.proofs.RisingLemmas.{no_more, or_group, same_rising}
+use Rattle.micro_step.proofs.RisingLemmas.{no_more, same_rising}
 
 -- where all that a set has is below an end, and nothing from a number to there, it has nothing from that number on
 pub none_left : (h : ℕ → Bool) (end from : ℕ) → ((k : ℕ) → h k ≡ true → k < end) → ((q : ℕ) → from ≤ q → q < end → h q ≡ false) → (q : ℕ) → from ≤ q → h q ≡ false
@@ -78,17 +77,6 @@ are_places t xs ks r h = same_rising ks (places_where t 0 xs) r (rising_places t
 
 -- One event: its numbers one after another.
 
-among_last : (xs : List ℕ) (k q : ℕ) → among (xs ++ k ∷ []) q ≡ (among xs q || k == q)
-among_last [] k q = no_more (k == q)
-among_last (x ∷ xs) k q = ap (λ (b : Bool). x == q || b) (among_last xs k q) ∙ or_group (x == q) (among xs q) (k == q)
-
-more_bits : (a m e b : Bool) → ((a || (m && e)) || (b && e)) ≡ (a || ((m || b) && e))
-more_bits true m e b = refl
-more_bits false true true b = refl
-more_bits false true false true = refl
-more_bits false true false false = refl
-more_bits false false e b = refl
-
 -- a number that is put in is one that passes
 pub put_enabled : (enabled : ℕ → Bool) (a : Bool) (k q : ℕ) → enabled k ≡ true → (a || k == q) ≡ (a || (k == q && enabled q))
 put_enabled enabled a k q on = by (k == q) refl
@@ -104,38 +92,6 @@ skip_disabled enabled a k q off = by (k == q) refl
     by : (b : Bool) → (k == q) ≡ b → a ≡ (a || (b && enabled q))
     by true e = sym (no_more a) ∙ ap (λ (z : Bool). a || z) (sym (ap enabled (sym (eqb-true k q e)) ∙ off))
     by false e = sym (no_more a)
-
--- what is gathered after so many numbers of a list
-abbrev pub Gathered : (ℕ → Bool) → (ℕ → Bool) → List ℕ → List ℕ → Type 0
-Gathered before enabled seen ks = (q : ℕ) → among ks q ≡ (before q || (among seen q && enabled q))
-
-pub gather_none : (before enabled : ℕ → Bool) (list ks : List ℕ) → ((q : ℕ) → among ks q ≡ before q) → Gathered before enabled (take 0 list) ks
-gather_none before enabled list ks h q = h q ∙ sym (no_more (before q))
-
-pub gather_more : (before enabled : ℕ → Bool) (list ks new : List ℕ) (i k : ℕ) → i < length list → k ≡ get_or list i 0 → ((q : ℕ) → among new q ≡ (among ks q || (k == q && enabled q)))
-    → Gathered before enabled (take i list) ks → Gathered before enabled (take (i + 1) list) new
-gather_more before enabled list ks new i k l item put h q =
-    let more = take_more list i 0 l ∙ ap (λ (d : ℕ). take i list ++ d ∷ []) (sym item) in
-    put q ∙ ap (λ (b : Bool). b || (k == q && enabled q)) (h q)
-    ∙ more_bits (before q) (among (take i list) q) (enabled q) (k == q)
-    ∙ ap (λ (b : Bool). before q || (b && enabled q)) (sym (among_last (take i list) k q))
-    ∙ ap (λ (xs : List ℕ). before q || (among xs q && enabled q)) (sym more)
-
-both_pass : {A : Type 0} (t u : A → Bool) (xs : List A) (q : ℕ) → (passes t xs q && passes u xs q) ≡ passes (λ x. t x && u x) xs q
-both_pass t u xs q = by (slice_get xs q)
-  where
-    by : (o : Option _) → (option_map_or t o false && option_map_or u o false) ≡ option_map_or (λ x. t x && u x) o false
-    by None = refl
-    by (Some x) = refl
-
--- all numbers of the event are gathered
-pub gather_all : {A : Type 0} (before : ℕ → Bool) (on en : A → Bool) (xs : List A) (list ks : List ℕ) (i : ℕ) → length list ≤ i → list ≡ places_where on 0 xs
-    → Gathered before (passes en xs) (take i list) ks → (q : ℕ) → among ks q ≡ (before q || passes (λ x. on x && en x) xs q)
-gather_all before on en xs list ks i l are h q =
-    h q
-    ∙ ap (λ (ys : List ℕ). before q || (among ys q && passes en xs q)) (take_all i list l ∙ are)
-    ∙ ap (λ (b : Bool). before q || (b && passes en xs q)) (among_places on xs q)
-    ∙ ap (λ (b : Bool). before q || b) (both_pass on en xs q)
 
 -- One event after another.
 

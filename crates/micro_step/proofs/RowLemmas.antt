@@ -1,9 +1,8 @@
 -- The truths of the rows of tables over numbers are those of the text.
-use Rattle.std.proofs.Common.{◌≡◌, ℕ, zero, suc, ◌+◌, ◌*◌, ◌-◌, ◌<◌, ◌≤◌, Bool, cond, List, [], ◌∷◌, map, length, drop, get_or, Option, Some, None, slice_get, refl, sym, ap, ◌∙◌, arith}
+use Rattle.std.proofs.Common.{◌≡◌, ℕ, zero, suc, ◌+◌, ◌*◌, ◌-◌, ◌<◌, ◌≤◌, Bool, List, [], ◌∷◌, map, length, drop, get_or, Option, Some, None, slice_get, refl, sym, ap, ◌∙◌, arith}
 use Rattle.std.specs.Prelude.{if◌then◌else◌}
 use Rattle.std.specs.List.{AllZip}
 use Rattle.std.specs.Option.{option_map_or}
-use Rattle.std.specs.Simd.Lanes.{mask_l}
 use Rattle.std.proofs.lemmas.List.{length-map, length-drop}
 use Rattle.rsml_syntax.specs.declared.world.World.{World}
 use Rattle.rsml_syntax.specs.declared.syntax.Row.{Row}
@@ -11,10 +10,10 @@ use Rattle.rsml_syntax.specs.declared.syntax.Case.{Case}
 use Rattle.rsml_syntax.specs.declared.syntax.Guard.{Guard}
 use Rattle.rsml_syntax.specs.declared.syntax.Guard.TheVariants as written
 use Rattle.rsml_syntax.specs.limits.Comparisons.{Indices}
-use Rattle.rsml_meaning.specs.Words.{Each, item_of}
+use Rattle.rsml_meaning.specs.Words.{item_of}
 use Rattle.rsml_meaning.specs.Truth.{phrase, view, within}
 use Rattle.rsml_meaning.specs.Transitions.{TransitionInstance, transitions}
-use Rattle.rsml_meaning.specs.Interfaces.{SendCaseInstance, FunctionInstance, macro_table, function_cases, definitions, send_cases}
+use Rattle.rsml_meaning.specs.Interfaces.{SendCaseInstance, macro_table, function_cases, definitions, send_cases}
 use Rattle.rsml_meaning.specs.Interfaces as meaning_of
 use Rattle.and_or_tables.specs.Ground.{known}
 use Rattle.and_or_tables.specs.declared.ground.GroundRow.{GroundRow}
@@ -27,9 +26,8 @@ use Rattle.rsml_ground.specs.declared.definitions.Definition.{Definition}
 use Rattle.rsml_ground.specs.declared.definitions.Definition.TheVariants as definition
 use Rattle.rsml_ground.specs.Truths.{Grounded, truths_in}
 use Rattle.rsml_ground.specs.Grounded.{IsGrounded}
-use Rattle.rsml_ground.specs.Rests.{GuardFits, CaseFits}
+use Rattle.rsml_ground.specs.Rests.{GuardFits}
 use Rattle.rsml_ground.specs.StandsFor.{RowIs, GuardIs, CaseIs, DefinitionIs}
-use Rattle.rsml_ground.proofs.DeclaredLemmas.{each_at}
 use Rattle.rsml_ground.proofs.PhraseLemmas.{phrases_mean_the_text}
 use Rattle.ground_members.specs.declared.transitions.GroundTransition.{GroundTransition}
 use Rattle.ground_members.specs.declared.send_cases.GroundSendCase.{GroundSendCase}
@@ -181,7 +179,3 @@ module _ (m : GroundMachine) (w : World) (stands : StandsFor m) where
           let c = beside (λ c x. CaseIs m.base.phrases m.base.spec (within g.function.index) (item_of c) x) g.cases cases place x is one in
           rows_of_guard m.base w stands.grounded (within g.function.index) (item_of c.0).guard x.guard c.2.guard
           ∙ ap (λ (o : Option (ℕ × Case)). option_map_or (λ (c : ℕ × Case). guard_rows (view m.base.spec w) (within g.function.index) (item_of c).guard) o []) (sym c.1)
-
--- a case of a function rests on the phrases
-pub function_case_fits : (cells n : ℕ) (cases : List GroundCase) (place : ℕ) (x : GroundCase) → Each (CaseFits cells n) cases → slice_get cases place ≡ Some x → GuardFits n x.guard
-function_case_fits cells n cases place x each at = (each_at (CaseFits cells n) cases each place x at).guard

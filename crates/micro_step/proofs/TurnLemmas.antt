@@ -1,5 +1,5 @@
 -- Transitions that are entered one after another leave each component with a place that it may have after them.
-use Rattle.std.proofs.Common.{◌≡◌, ℕ, suc, List, [], ◌∷◌, map, zip, fold, filter_map, length, Option, Some, None, unwrap_or, ◌⊎◌, inl, inr, ⊎_elim, refl, sym, ap, ◌∙◌, subst, arith}
+use Rattle.std.proofs.Common.{◌≡◌, ℕ, List, [], ◌∷◌, map, zip, fold, filter_map, length, Option, Some, None, unwrap_or, ◌⊎◌, inl, inr, ⊎_elim, refl, sym, ap, ◌∙◌, subst, arith}
 use Rattle.std.specs.List.{cons_option}
 use Rattle.rsml_syntax.specs.declared.syntax.Spec.{Spec}
 use Rattle.rsml_meaning.specs.Words.{IsOne, AllThree, Path}
@@ -82,12 +82,3 @@ each_turn ts (c ∷ cs) (n ∷ ns) h = (turn_is_outcome c n ts, each_turn ts cs 
 pub turns_are_outcomes : (s : Spec) (ts : List TransitionInstance) (ns : List ℕ) → length ns ≡ length (components s) → AreOutcomes s ts ns (after_all s ts ns)
 turns_are_outcomes s ts ns h =
     subst (AreOutcomes s ts ns) (sym (all_turns s ts ns (as_long (components s) ns h))) (each_turn ts (components s) ns h)
-
-pub turns_long : (s : Spec) (ts : List TransitionInstance) (ns : List ℕ) → length ns ≡ length (components s) → length (after_all s ts ns) ≡ length (components s)
-turns_long s ts ns h = ap length (all_turns s ts ns (as_long (components s) ns h)) ∙ zipped (turn ts) (components s) ns h
-  where
-    zipped : (f : Component × ℕ → ℕ) (cs : List Component) (ns : List ℕ) → length ns ≡ length cs → length (map f (zip cs ns)) ≡ length cs
-    zipped f [] [] h = refl
-    zipped f [] (n ∷ ns) h = absurd (omega (arith, h))
-    zipped f (c ∷ cs) [] h = absurd (omega (arith, h))
-    zipped f (c ∷ cs) (n ∷ ns) h = ap suc (zipped f cs ns (omega (arith, h)))

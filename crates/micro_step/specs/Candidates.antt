@@ -1,13 +1,16 @@
 -- What is prepared of the transitions and the cases of sends on each event.
-use Rattle.std.specs.Prelude.{◌≡◌, ◌<◌, ℕ, Bool, ◌&&◌, List, map, length, Some, All, slice_get}
+use Rattle.std.specs.Prelude.{◌≡◌, ◌<◌, ℕ, Bool, ◌&&◌, List, map, length, Option, Some, IfSome, All, slice_get}
 use Rattle.rsml_syntax.specs.declared.world.World.{World}
 use Rattle.rsml_meaning.specs.Instances.{events}
 use Rattle.rsml_meaning.specs.Worlds.{IsWorld}
-use Rattle.rsml_ground.specs.Truths.{truths_in}
+use Rattle.and_or_tables.specs.Ground.{known}
+use Rattle.rsml_ground.specs.Truths.{guard_truth, truths_in}
+use Rattle.macros.specs.Known.{Agrees}
 use Rattle.elaborate.specs.Machine.{GroundMachine}
 use Rattle.elaborate.specs.OnEvents.{transitions_on, cases_on}
 use Rattle.elaborate.specs.Enabled.{is_enabled, is_sending}
 use Rattle.micro_step.specs.declared.candidates.Candidate.{Candidate}
+use Rattle.prepared_phrases.specs.declared.asked.Asked.{Asked}
 use Rattle.prepared_phrases.specs.Asked.{AskedBelow, asked_truth}
 use Rattle.state_choices.specs.Choices.{AreOfComponents, are_chosen}
 use Rattle.micro_step.specs.Places.{passes}
@@ -16,10 +19,25 @@ use Rattle.micro_step.specs.Places.{passes}
 abbrev pub is_met : GroundMachine → World → Candidate → Bool
 is_met m w c = are_chosen w.choices c.choices.items && asked_truth (truths_in m.base w) c.asked
 
--- A candidate names components and phrases that there are.
+-- the truths of the guards of the transitions in a world
+abbrev pub guard_truths : GroundMachine → World → List Bool
+guard_truths m w = map (λ x. guard_truth (truths_in m.base w) x.guard) m.transitions
+
+-- There is a place for each transition, and each truth that is known is that of its guard in the world.
+pub record KnowsGuards (m : GroundMachine) (w : World) (guards : List (Option Bool)) : Type 0 where
+  pub count : length guards ≡ length m.transitions
+  pub right : Agrees guards (guard_truths m w)
+
+-- There is a transition of the number, and in every world its guard is true exactly where one is that is asked so.
+pub record HasGuardOf (m : GroundMachine) (a : Asked) (number : ℕ) : Type 0 where
+  pub there : number < length m.transitions
+  pub right : (w : World) → asked_truth (truths_in m.base w) a ≡ known (guard_truths m w) number
+
+-- A candidate names components and phrases that there are, and the truth of its guard is kept where a guard is the same.
 pub record Fits (m : GroundMachine) (c : Candidate) : Type 0 where
   pub components : AreOfComponents m.base.spec c.choices.items
   pub phrases : AskedBelow (length m.base.phrases) c.asked
+  pub kept_at : IfSome c.kept_at (HasGuardOf m c.asked)
 
 -- A candidate has the number of an item, and is met in a world exactly where that passes.
 pub record TellsOf {A : Type 0} (m : GroundMachine) (test : World → A → Bool) (xs : List A) (c : Candidate) : Type 0 where

@@ -83,11 +83,12 @@ ground_rows truths (guards.Table table) = map (λ row. known truths row.phrase) 
 abbrev pub picked : List ℕ → List ℕ → List ℕ
 picked ks places = map (λ p. slice_index_or ks p 0) places
 
--- What a machine keeps for its micro-steps: what is known of the phrases, the numbers of the taken transitions and of the send
--- cases, and for each case of a send the numbers of its values; and for each event the candidates for the transitions and for
--- the cases of sends on it, and phrases about states alone.
+-- What a machine keeps for its micro-steps: what is known of the phrases and of the guards of transitions, the numbers of the
+-- taken transitions and of the send cases, and for each case of a send the numbers of its values; and for each event the
+-- candidates for the transitions and for the cases of sends on it, and phrases about states alone.
 pub record Kept : Type 0 where
   pub memo : List (Option Bool)
+  pub guards : List (Option Bool)
   pub taken : Numbers
   pub sent : Numbers
   pub values : List (List ℤ)
@@ -98,6 +99,7 @@ pub record Kept : Type 0 where
 -- It was made for the machine.
 pub record IsFor (m : GroundMachine) (k : Kept) : Type 0 where
   pub phrases : length k.memo ≡ length m.base.phrases
+  pub guards : length k.guards ≡ length m.transitions
   pub taken : k.taken.below ≡ length m.transitions
   pub sent : k.sent.below ≡ length m.send_cases
   pub values : HaveRoom m k.values

@@ -1,9 +1,11 @@
 ghost use Rattle.std.specs.Prelude.{◌≡◌, ◌<◌, ◌==◌, ◌||◌, ◌&&◌, ℕ, All};
 ghost use Rattle.std.specs.List.{list_any};
 ghost use Rattle.rsml_meaning.specs.Worlds.{IsWorld};
+ghost use Rattle.rsml_ground.specs.Truths.{truths_in};
 ghost use Rattle.macros.specs.Known.{Knows};
+ghost use Rattle.prepared_phrases.specs.Asked.{asked_truth};
 ghost use Rattle.micro_step.specs.Candidates as spec;
-ghost use Rattle.micro_step.specs.Candidates.{Fits};
+ghost use Rattle.micro_step.specs.Candidates.{Fits, KnowsGuards};
 ghost use Rattle.micro_step.specs.Rising.{AreRising, among};
 
 use crate::asking::is_true;
@@ -14,24 +16,61 @@ use prepared_phrases::Asked;
 use rsml_syntax::World;
 use state_choices::{Choice, are_chosen};
 
-/// A transition, or a case of a send, by its number: the children that make its source active, and how its guard is asked.
+/// A transition, or a case of a send, by its number: the children that make its source active, and how its guard is asked. Where
+/// the truth of the guard is kept once it is known, it is kept at the number of a transition with the same guard.
 #[derive(Drop)]
 pub struct Candidate {
     pub number: u32,
     pub choices: Vec<Choice>,
     pub asked: Asked,
+    pub kept_at: Option<u32>,
+}
+
+/// Whether the guard of a candidate is true in the world. One whose truth is kept is asked once.
+fn holds(
+    machine: &Machine<'_>,
+    world: &World,
+    memo: &mut Memo,
+    guards: &mut Memo,
+    candidate: &Candidate,
+) -> bool
+    requires world { IsWorld machine.now.base.spec world.now }
+    requires knows { Knows machine.now.base world.now memo.old }
+    requires guards { KnowsGuards machine.now world.now guards.old }
+    requires fits { Fits machine.now candidate.now }
+    ensures truth { result ≡ asked_truth (truths_in machine.now.base world.now) candidate.now.asked }
+    ensures knows { Knows machine.now.base world.now memo.new }
+    ensures guards { KnowsGuards machine.now world.now guards.new }
+{
+    let Some(number) = candidate.kept_at else {
+        return is_true(machine, world, memo, &candidate.asked);
+    };
+    if guards.knows(number) {
+        return guards.truths().get(number);
+    }
+    let truth = is_true(machine, world, memo, &candidate.asked);
+    guards.learn(number, truth);
+    truth
 }
 
 /// Whether a candidate is enabled in the world.
-fn is_met(machine: &Machine<'_>, world: &World, memo: &mut Memo, candidate: &Candidate) -> bool
+fn is_met(
+    machine: &Machine<'_>,
+    world: &World,
+    memo: &mut Memo,
+    guards: &mut Memo,
+    candidate: &Candidate,
+) -> bool
     requires world { IsWorld machine.now.base.spec world.now }
     requires knows { Knows machine.now.base world.now memo.old }
+    requires guards { KnowsGuards machine.now world.now guards.old }
     requires fits { Fits machine.now candidate.now }
     ensures met { result ≡ spec.is_met machine.now world.now candidate.now }
     ensures knows { Knows machine.now.base world.now memo.new }
+    ensures guards { KnowsGuards machine.now world.now guards.new }
 {
     are_chosen(world.choices.as_slice(), candidate.choices.as_slice())
-        && is_true(machine, world, memo, &candidate.asked)
+        && holds(machine, world, memo, guards, candidate)
 }
 
 /// Puts in the number of a candidate if it is enabled.
@@ -39,11 +78,13 @@ fn put_one(
     machine: &Machine<'_>,
     world: &World,
     memo: &mut Memo,
+    guards: &mut Memo,
     candidate: &Candidate,
     found: &mut Rising,
 )
     requires world { IsWorld machine.now.base.spec world.now }
     requires knows { Knows machine.now.base world.now memo.old }
+    requires guards { KnowsGuards machine.now world.now guards.old }
     requires fits { Fits machine.now candidate.now }
     requires number { candidate.now.number < found.old.below }
     requires rising { AreRising found.old.items }
@@ -52,8 +93,9 @@ fn put_one(
     ensures rising { AreRising found.new.items }
     ensures bound { found.new.below ≡ found.old.below }
     ensures knows { Knows machine.now.base world.now memo.new }
+    ensures guards { KnowsGuards machine.now world.now guards.new }
 {
-    if !is_met(machine, world, memo, candidate) {
+    if !is_met(machine, world, memo, guards, candidate) {
         return;
     }
     found.put(candidate.number);
@@ -64,11 +106,13 @@ pub fn put_enabled(
     machine: &Machine<'_>,
     world: &World,
     memo: &mut Memo,
+    guards: &mut Memo,
     candidates: &[Candidate],
     found: &mut Rising,
 )
     requires world { IsWorld machine.now.base.spec world.now }
     requires knows { Knows machine.now.base world.now memo.old }
+    requires guards { KnowsGuards machine.now world.now guards.old }
     requires fits { All (Fits machine.now) candidates.now }
     requires numbers { All (λ c. c.number < found.old.below) candidates.now }
     requires rising { AreRising found.old.items }
@@ -77,8 +121,9 @@ pub fn put_enabled(
     ensures rising { AreRising found.new.items }
     ensures bound { found.new.below ≡ found.old.below }
     ensures knows { Knows machine.now.base world.now memo.new }
+    ensures guards { KnowsGuards machine.now world.now guards.new }
 {
     for candidate in candidates {
-        put_one(machine, world, memo, candidate, found);
+        put_one(machine, world, memo, guards, candidate, found);
     }
 }

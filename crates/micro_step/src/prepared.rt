@@ -1,8 +1,9 @@
-ghost use Rattle.std.specs.Prelude.{◌≡◌, ◌<◌, IfOk, length, map};
+ghost use Rattle.std.specs.Prelude.{◌≡◌, ◌<◌, All, IfOk, IfSome, length, map};
 ghost use Rattle.rsml_meaning.specs.Instances.{events};
+ghost use Rattle.elaborate.specs.Machine.{GroundMachine};
 ghost use Rattle.elaborate.specs.Enabled.{is_enabled, is_sending};
 ghost use Rattle.elaborate.specs.OnEvents as numbers;
-ghost use Rattle.micro_step.specs.Candidates.{AreFor, AreOfCases, AreOfTransitions, TellsOf};
+ghost use Rattle.micro_step.specs.Candidates.{AreFor, AreOfCases, AreOfTransitions, Fits, HasGuardOf, TellsOf};
 
 use crate::candidates::Candidate;
 use elaborate::Machine;
@@ -11,9 +12,36 @@ use rsml_syntax::NoMemory;
 use state_choices::choices_around;
 use std::alloc::Global;
 
-/// The candidate for a transition.
-fn of_transition(alloc: Global, machine: &Machine<'_>, number: u32) -> Result<Candidate, NoMemory>
-    requires { number < length machine.now.transitions }
+/// How many candidates before a transition are looked through for its guard.
+const NEAR: usize = 64;
+
+/// The number at which the truth of a transition's guard is kept: the one of a candidate shortly before it that is asked by the
+/// same columns, or else its own. None where the guard is not asked by columns: then its truth is not kept.
+fn number_for_guard(earlier: &[Candidate], number: u32, asked: &Asked) -> Option<u32>
+    ensures { (m : GroundMachine) → All (Fits m) earlier.now → HasGuardOf m asked.now number
+        → IfSome result (HasGuardOf m asked.now) }
+{
+    if !matches!(asked, Asked::Columns(_)) {
+        return None;
+    }
+    for place in earlier.len().saturating_sub(NEAR)..earlier.len() {
+        let candidate = &earlier[place];
+        if candidate.asked.has_columns_of(asked) {
+            return candidate.kept_at;
+        }
+    }
+    Some(number)
+}
+
+/// The candidate for a transition, behind others for transitions.
+fn of_transition(
+    alloc: Global,
+    machine: &Machine<'_>,
+    earlier: &[Candidate],
+    number: u32,
+) -> Result<Candidate, NoMemory>
+    requires earlier { All (Fits machine.now) earlier.now }
+    requires number { number < length machine.now.transitions }
     ensures number { IfOk result (λ c. c.number ≡ number) }
     ensures tells { IfOk result (TellsOf machine.now (is_enabled machine.now) machine.now.transitions) }
 {
@@ -21,14 +49,16 @@ fn of_transition(alloc: Global, machine: &Machine<'_>, number: u32) -> Result<Ca
     let transition = machine.transition(number);
     let choices = choices_around(alloc, machine.tree(), transition.source())?;
     let asked = Asked::new(alloc, transition.guard())?;
+    let kept_at = number_for_guard(earlier, number, &asked);
     Ok(Candidate {
         number,
         choices,
         asked,
+        kept_at,
     })
 }
 
-/// The candidate for a case of a send. It has no source.
+/// The candidate for a case of a send. It has no source, and the truth of its guard is not kept.
 fn of_case(alloc: Global, machine: &Machine<'_>, number: u32) -> Result<Candidate, NoMemory>
     requires { number < length machine.now.send_cases }
     ensures number { IfOk result (λ c. c.number ≡ number) }
@@ -41,6 +71,7 @@ fn of_case(alloc: Global, machine: &Machine<'_>, number: u32) -> Result<Candidat
         number,
         choices,
         asked,
+        kept_at: None,
     })
 }
 
@@ -57,7 +88,8 @@ fn transitions_on(
     let numbers = machine.transitions_on(event);
     let mut candidates = Vec::with_capacity(alloc, numbers.len())?;
     for number in numbers {
-        candidates.push(of_transition(alloc, machine, *number)?)?;
+        let next = of_transition(alloc, machine, candidates.as_slice(), *number)?;
+        candidates.push(next)?;
     }
     Ok(candidates)
 }

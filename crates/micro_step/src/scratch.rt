@@ -26,11 +26,13 @@ use rsml_syntax::{NoMemory, World};
 use std::alloc::Global;
 use std::marker::Model;
 
-/// What a machine keeps for its micro-steps: what is known of the phrases, the taken transitions, the send cases that are
-/// enabled, and their values; and for each event what may be enabled on it. Only `new` takes memory.
+/// What a machine keeps for its micro-steps: what is known of the phrases and of the guards of transitions, the taken
+/// transitions, the send cases that are enabled, and their values; and for each event what may be enabled on it. Only `new`
+/// takes memory.
 #[derive(Drop)]
 pub struct Scratch {
     memo: Memo,
+    guards: Memo,
     taken: Rising,
     sent: Rising,
     values: Vec<Vec<i64>>,
@@ -47,6 +49,7 @@ impl Model for Scratch {
 
     ghost view = { λ s. record {
       memo = s.memo;
+      guards = s.guards;
       taken = s.taken;
       sent = s.sent;
       values = map (λ v. v.items) s.values.items;
@@ -89,6 +92,7 @@ impl Scratch {
         ensures knows { IfOk result (λ scratch. (w : WorldValue) → Knows machine.now.base w scratch.memo) }
     {
         let memo = Memo::new(alloc, machine.macros().phrases())?;
+        let guards = Memo::new(alloc, machine.transitions())?;
         let taken = Rising::new(alloc, machine.transitions())?;
         let sent = Rising::new(alloc, machine.send_cases())?;
         let values = room(alloc, machine)?;
@@ -97,6 +101,7 @@ impl Scratch {
         let states = needed(alloc, machine)?;
         Ok(Scratch {
             memo,
+            guards,
             taken,
             sent,
             values,
@@ -155,6 +160,7 @@ impl Scratch {
         ensures made { IsFor machine.now self.new }
     {
         self.memo.forget();
+        self.guards.forget();
         learn_states(
             machine,
             world,
@@ -167,6 +173,7 @@ impl Scratch {
             machine,
             world,
             &mut self.memo,
+            &mut self.guards,
             self.transitions.as_slice(),
             present,
             &mut self.taken,
@@ -176,6 +183,7 @@ impl Scratch {
             machine,
             world,
             &mut self.memo,
+            &mut self.guards,
             self.cases.as_slice(),
             present,
             &mut self.sent,

@@ -3,7 +3,7 @@ ghost use Rattle.rsml_meaning.specs.Instances.{events};
 ghost use Rattle.rsml_meaning.specs.Worlds.{IsWorld};
 ghost use Rattle.macros.specs.Known.{Knows};
 ghost use Rattle.elaborate.specs.Enabled as spec;
-ghost use Rattle.micro_step.specs.Candidates.{AreOfCases};
+ghost use Rattle.micro_step.specs.Candidates.{AreOfCases, KnowsGuards};
 ghost use Rattle.micro_step.specs.Micros.{AreEvents};
 ghost use Rattle.micro_step.specs.Numbers.{sent_at};
 ghost use Rattle.micro_step.specs.Places.{passes};
@@ -21,6 +21,7 @@ fn send_on(
     machine: &Machine<'_>,
     world: &World,
     memo: &mut Memo,
+    guards: &mut Memo,
     candidates: &[Vec<Candidate>],
     event: u32,
     sent: &mut Rising,
@@ -28,6 +29,7 @@ fn send_on(
     requires candidates { AreOfCases machine.now (map (λ v. v.items) candidates.now) }
     requires world { IsWorld machine.now.base.spec world.now }
     requires knows { Knows machine.now.base world.now memo.old }
+    requires guards { KnowsGuards machine.now world.now guards.old }
     requires event { event < length (events machine.now.base.spec) }
     requires bound { sent.old.below ≡ length machine.now.send_cases }
     requires rising { AreRising sent.old.items }
@@ -36,9 +38,10 @@ fn send_on(
     ensures rising { AreRising sent.new.items }
     ensures bound { sent.new.below ≡ length machine.now.send_cases }
     ensures knows { Knows machine.now.base world.now memo.new }
+    ensures guards { KnowsGuards machine.now world.now guards.new }
 {
     let there = candidates[event as usize].as_slice();
-    put_enabled(machine, world, memo, there, sent);
+    put_enabled(machine, world, memo, guards, there, sent);
 }
 
 /// Puts in the cases of sends on the events of a set that are enabled in the world.
@@ -46,6 +49,7 @@ pub fn send(
     machine: &Machine<'_>,
     world: &World,
     memo: &mut Memo,
+    guards: &mut Memo,
     candidates: &[Vec<Candidate>],
     present: &Events,
     sent: &mut Rising,
@@ -53,17 +57,19 @@ pub fn send(
     requires candidates { AreOfCases machine.now (map (λ v. v.items) candidates.now) }
     requires world { IsWorld machine.now.base.spec world.now }
     requires knows { Knows machine.now.base world.now memo.old }
+    requires guards { KnowsGuards machine.now world.now guards.old }
     requires present { AreEvents machine.now.base.spec present.now }
     requires bound { sent.old.below ≡ length machine.now.send_cases }
     requires none { sent.old.items ≡ [] }
     ensures sent { sent.new.items ≡ sent_at machine.now world.now present.now }
     ensures bound { sent.new.below ≡ length machine.now.send_cases }
     ensures knows { Knows machine.now.base world.now memo.new }
+    ensures guards { KnowsGuards machine.now world.now guards.new }
 {
     let count = machine.events() as usize;
     let mut from = 0;
     while let Some(event) = present.next_below(from, count) {
-        send_on(machine, world, memo, candidates, event as u32, sent);
+        send_on(machine, world, memo, guards, candidates, event as u32, sent);
         from = event + 1;
     }
 }

@@ -3,7 +3,7 @@ ghost use Rattle.rsml_meaning.specs.Instances.{events};
 ghost use Rattle.rsml_meaning.specs.Worlds.{IsWorld};
 ghost use Rattle.macros.specs.Known.{Knows};
 ghost use Rattle.elaborate.specs.Enabled as spec;
-ghost use Rattle.micro_step.specs.Candidates.{AreOfTransitions};
+ghost use Rattle.micro_step.specs.Candidates.{AreOfTransitions, KnowsGuards};
 ghost use Rattle.micro_step.specs.Micros.{AreEvents};
 ghost use Rattle.micro_step.specs.Numbers.{taken_at};
 ghost use Rattle.micro_step.specs.Places.{passes};
@@ -21,6 +21,7 @@ fn take_on(
     machine: &Machine<'_>,
     world: &World,
     memo: &mut Memo,
+    guards: &mut Memo,
     candidates: &[Vec<Candidate>],
     event: u32,
     taken: &mut Rising,
@@ -28,6 +29,7 @@ fn take_on(
     requires candidates { AreOfTransitions machine.now (map (λ v. v.items) candidates.now) }
     requires world { IsWorld machine.now.base.spec world.now }
     requires knows { Knows machine.now.base world.now memo.old }
+    requires guards { KnowsGuards machine.now world.now guards.old }
     requires event { event < length (events machine.now.base.spec) }
     requires bound { taken.old.below ≡ length machine.now.transitions }
     requires rising { AreRising taken.old.items }
@@ -36,9 +38,10 @@ fn take_on(
     ensures rising { AreRising taken.new.items }
     ensures bound { taken.new.below ≡ length machine.now.transitions }
     ensures knows { Knows machine.now.base world.now memo.new }
+    ensures guards { KnowsGuards machine.now world.now guards.new }
 {
     let there = candidates[event as usize].as_slice();
-    put_enabled(machine, world, memo, there, taken);
+    put_enabled(machine, world, memo, guards, there, taken);
 }
 
 /// Takes the transitions on the events of a set that are enabled in the world.
@@ -46,6 +49,7 @@ pub fn take(
     machine: &Machine<'_>,
     world: &World,
     memo: &mut Memo,
+    guards: &mut Memo,
     candidates: &[Vec<Candidate>],
     present: &Events,
     taken: &mut Rising,
@@ -53,17 +57,27 @@ pub fn take(
     requires candidates { AreOfTransitions machine.now (map (λ v. v.items) candidates.now) }
     requires world { IsWorld machine.now.base.spec world.now }
     requires knows { Knows machine.now.base world.now memo.old }
+    requires guards { KnowsGuards machine.now world.now guards.old }
     requires present { AreEvents machine.now.base.spec present.now }
     requires bound { taken.old.below ≡ length machine.now.transitions }
     requires none { taken.old.items ≡ [] }
     ensures taken { taken.new.items ≡ taken_at machine.now world.now present.now }
     ensures bound { taken.new.below ≡ length machine.now.transitions }
     ensures knows { Knows machine.now.base world.now memo.new }
+    ensures guards { KnowsGuards machine.now world.now guards.new }
 {
     let count = machine.events() as usize;
     let mut from = 0;
     while let Some(event) = present.next_below(from, count) {
-        take_on(machine, world, memo, candidates, event as u32, taken);
+        take_on(
+            machine,
+            world,
+            memo,
+            guards,
+            candidates,
+            event as u32,
+            taken,
+        );
         from = event + 1;
     }
 }

@@ -1,4 +1,4 @@
-use Rattle.std.proofs.Common.{◌≡◌, ◌<◌, ◌==◌, ◌||◌, ◌&&◌, ℕ, Bool, List, get_or, take, refl, sym, ap, ◌∙◌, subst}
+use Rattle.std.proofs.Common.{◌==◌, ◌||◌, ◌&&◌, Bool, List, take, refl, sym, ap, ◌∙◌, subst}
 use Rattle.std.specs.List.{list_any}
 use Rattle.std.proofs.lemmas.List.{take_all}
 use Rattle.std.proofs.lemmas.List.Folds.{list_any_more}
@@ -13,6 +13,7 @@ loop-candidate-init c = record {
   bound = refl;
   rising = c.requires.rising;
   knows = c.requires.knows;
+  guards = c.requires.guards;
   so_far = λ q. sym (no_more (among c.args.found.now.items q));
 }
 
@@ -30,6 +31,7 @@ loop-candidate-preserved c =
       bound = c.put_one.ensures.bound ∙ c.loop-candidate.invariant.bound;
       rising = c.put_one.ensures.rising;
       knows = c.put_one.ensures.knows;
+      guards = c.put_one.ensures.guards;
       so_far = λ q.
           let p = λ (y : Candidate). y.number == q && is_met m w y in
           c.put_one.ensures.among q

@@ -1,4 +1,4 @@
-use Rattle.std.proofs.Common.{◌≡◌, ◌<◌, ℕ, Bool, List, Option, Some, All, map, length, sym, ap, ◌∙◌, subst, slice_set, arith}
+use Rattle.std.proofs.Common.{◌≡◌, ◌<◌, ℕ, Bool, List, Option, All, map, length, sym, ap, ◌∙◌, subst, arith}
 use Rattle.and_or_tables.specs.Ground.{known}
 use Rattle.rsml_meaning.specs.Instances.{components}
 use Rattle.rsml_ground.specs.Truths.{truths_in}

@@ -1,4 +1,4 @@
-use Rattle.std.proofs.Common.{◌≡◌, ◌==◌, get_or, refl, ◌∙◌}
+use Rattle.std.proofs.Common.{◌==◌, get_or, refl, ◌∙◌}
 use Rattle.elaborate.specs.Enabled.{is_sending}
 use Rattle.micro_step.proofs.CandidateLemmas.{for_none, for_more, for_all}
 use Rattle.micro_step.proofs.LoopLemmas.{on_event, listed_below}

@@ -1,4 +1,4 @@
-use Rattle.std.proofs.Common.{length, sym, subst}
+use Rattle.std.proofs.Common.{length, None, sym, subst}
 use Rattle.rsml_ground.specs.declared.definitions.GroundGuard.{GroundGuard}
 use Rattle.macros.specs.Guards.{GuardBelow, HasShape}
 use Rattle.prepared_phrases.specs.Asked.{AsksFor}
@@ -15,5 +15,5 @@ returns-clause-tells c =
     let asked = c.in_ok-asked.asked in
     let count = length m.base.phrases in
     let below = (case_shape m c.args.number x c.law.ensures c.send_case.ensures).1 in
-    tells_of_case m (record { number = c.args.number; choices = c.new-choices.result; asked = asked }) x c.send_case.ensures c.new-choices.ensures.items
-    (subst (λ (g : GroundGuard). AsksFor count g asked) c.guard.ensures (c.in_ok-asked.ensures count (subst (GuardBelow count) (sym c.guard.ensures) below)))
+    tells_of_case m (record { number = c.args.number; choices = c.new-choices.result; asked = asked; kept_at = None }) x c.send_case.ensures c.new-choices.ensures.items
+    (subst (λ (g : GroundGuard). AsksFor count g asked) c.guard.ensures (c.in_ok-asked.ensures count (subst (GuardBelow count) (sym c.guard.ensures) below))) tt

@@ -1,4 +1,4 @@
-use Rattle.std.proofs.Common.{◌≡◌, ◌<◌, ap, map, ◌∙◌, arith}
+use Rattle.std.proofs.Common.{ap, map, ◌∙◌, arith}
 use Rattle.std.proofs.lemmas.List.{map_push}
 use Rattle.elaborate.specs.Enabled.{is_sending}
 use Rattle.elaborate.specs.OnEvents as numbers

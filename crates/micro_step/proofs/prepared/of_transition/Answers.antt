@@ -1,4 +1,4 @@
-use Rattle.std.proofs.Common.{◌<◌, length, sym, ap, ◌∙◌, subst}
+use Rattle.std.proofs.Common.{◌<◌, length, sym, subst}
 use Rattle.rsml_syntax.specs.declared.syntax.Spec.{Spec}
 use Rattle.rsml_syntax.specs.limits.Checked.{IsChecked}
 use Rattle.rsml_meaning.specs.Instances.{states}
@@ -6,7 +6,7 @@ use Rattle.rsml_ground.specs.declared.definitions.GroundGuard.{GroundGuard}
 use Rattle.macros.specs.Guards.{GuardBelow, HasShape}
 use Rattle.prepared_phrases.specs.Asked.{AsksFor}
 use Rattle.state_choices.specs.Choices.{AreOfComponents, TellActivity}
-use Rattle.micro_step.proofs.CandidateLemmas.{transition_shape, tells_of_transition}
+use Rattle.micro_step.proofs.CandidateLemmas.{own_guard, transition_shape, tells_of_transition}
 use Rattle.micro_step.proofs.MachineLemmas.{source_below}
 use Rattle.micro_step.proofs.prepared.of_transition.Goals as goal
 
@@ -31,7 +31,9 @@ returns-clause-tells c =
     let asked = c.in_ok-asked.asked in
     let count = length m.base.phrases in
     let below = (transition_shape m c.args.number x c.law.ensures c.transition-transition.ensures).1 in
-    tells_of_transition m (record { number = c.args.number; choices = choices; asked = asked }) x c.transition-transition.ensures
+    let asks : AsksFor count x.guard asked = subst (λ (g : GroundGuard). AsksFor count g asked) c.guard.ensures (c.in_ok-asked.ensures count (subst (GuardBelow count) (sym c.guard.ensures) below)) in
+    let kept_at = c.number_for_guard-kept_at.result in
+    tells_of_transition m (record { number = c.args.number; choices = choices; asked = asked; kept_at = kept_at }) x c.transition-transition.ensures
     (subst (λ (s : Spec). AreOfComponents s choices.items) c.tree.ensures c.in_ok-choices.ensures.components)
     (subst (λ k. TellActivity m.base.spec k choices.items) c.source.ensures (subst (λ (s : Spec). TellActivity s c.source.result choices.items) c.tree.ensures c.in_ok-choices.ensures.active))
-    (subst (λ (g : GroundGuard). AsksFor count g asked) c.guard.ensures (c.in_ok-asked.ensures count (subst (GuardBelow count) (sym c.guard.ensures) below)))
+    asks (c.number_for_guard-kept_at.ensures m c.requires.earlier (own_guard m c.args.number x asked c.transition-transition.ensures asks))

@@ -1,4 +1,4 @@
-use Rattle.std.proofs.Common.{◌≡◌, sym, ap, ◌∙◌, arith}
+use Rattle.std.proofs.Common.{sym, ap, ◌∙◌, arith}
 use Rattle.and_or_tables.specs.Ground.{known}
 use Rattle.and_or_tables.specs.declared.ground.GroundRow.{GroundRow}
 use Rattle.rsml_ground.specs.Truths.{truths_in}

@@ -10,6 +10,7 @@ loop-event-init c = record {
   bound = c.requires.bound;
   rising = subst AreRising (sym c.requires.none) tt;
   knows = c.requires.knows;
+  guards = c.requires.guards;
   so_far = λ q. ap (λ (ks : List ℕ). among ks q) c.requires.none ∙ events_none (has c.args.present.now) (λ x. x.event) (is_sending c.args.machine.now c.args.world.now) c.args.machine.now.send_cases q;
 }
 
@@ -24,6 +25,7 @@ loop-event-preserved c =
       bound = c.send_on.ensures.bound;
       rising = c.send_on.ensures.rising;
       knows = c.send_on.ensures.knows;
+      guards = c.send_on.ensures.guards;
       so_far = events_more (has c.args.present.now) (λ x. x.event) (is_sending m c.args.world.now) m.send_cases c.loop-event.sent.items c.send_on.new.sent.items c.loop-event.from c.in-Some.event
           next.0 next.2 next.3 c.loop-event.invariant.so_far c.send_on.ensures.among;
     }

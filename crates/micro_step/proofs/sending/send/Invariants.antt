@@ -1,6 +1,7 @@
 use Rattle.std.proofs.Common.{◌≡◌, ◌-◌, ℕ, length}
 use Rattle.macros.specs.Known.{Knows}
 use Rattle.elaborate.specs.Enabled.{is_sending}
+use Rattle.micro_step.specs.Candidates.{KnowsGuards}
 use Rattle.micro_step.specs.Places.{passes}
 use Rattle.micro_step.specs.Rising.{AreRising, among}
 use Rattle.micro_step.specs.Sets.{has}
@@ -12,6 +13,7 @@ invariant-loop-event l = record {
   bound : l.sent.below ≡ length l.machine.send_cases;
   rising : AreRising l.sent.items;
   knows : Knows l.machine.base l.world l.memo;
+  guards : KnowsGuards l.machine l.world l.guards;
   so_far : (q : ℕ) → among l.sent.items q ≡ passes (before_event (has l.present) (λ x. x.event) (is_sending l.machine l.world) l.from) l.machine.send_cases q;
 }
 

@@ -1,5 +1,4 @@
-use Rattle.std.proofs.Common.{◌≡◌, ◌&&◌, List, ℕ, fold, sym, ap, ◌∙◌, subst}
-use Rattle.rsml_syntax.specs.declared.world.World.{World}
+use Rattle.std.proofs.Common.{◌&&◌, List, ℕ, fold, sym, ap, ◌∙◌, subst}
 use Rattle.rsml_meaning.specs.Worlds.{IsWorld}
 use Rattle.elaborate.specs.Enabled.{is_enabled}
 use Rattle.micro_step.specs.Micros.{IsMicro}

@@ -10,6 +10,7 @@ loop-event-init c = record {
   bound = c.requires.bound;
   rising = subst AreRising (sym c.requires.none) tt;
   knows = c.requires.knows;
+  guards = c.requires.guards;
   so_far = λ q. ap (λ (ks : List ℕ). among ks q) c.requires.none ∙ events_none (has c.args.present.now) (λ x. x.event) (is_enabled c.args.machine.now c.args.world.now) c.args.machine.now.transitions q;
 }
 
@@ -24,6 +25,7 @@ loop-event-preserved c =
       bound = c.take_on.ensures.bound;
       rising = c.take_on.ensures.rising;
       knows = c.take_on.ensures.knows;
+      guards = c.take_on.ensures.guards;
       so_far = events_more (has c.args.present.now) (λ x. x.event) (is_enabled m c.args.world.now) m.transitions c.loop-event.taken.items c.take_on.new.taken.items c.loop-event.from c.in-Some.event
           next.0 next.2 next.3 c.loop-event.invariant.so_far c.take_on.ensures.among;
     }

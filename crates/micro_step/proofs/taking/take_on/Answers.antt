@@ -1,4 +1,4 @@
-use Rattle.std.proofs.Common.{◌≡◌, ◌<◌, ◌==◌, ◌||◌, ◌&&◌, ℕ, Bool, List, length, sym, ap, ◌∙◌, subst}
+use Rattle.std.proofs.Common.{◌<◌, ◌==◌, ◌||◌, ◌&&◌, Bool, List, sym, ap, ◌∙◌, subst}
 use Rattle.std.specs.List.{list_any, All}
 use Rattle.elaborate.specs.Enabled.{is_enabled}
 use Rattle.elaborate.specs.OnEvents.{transitions_on}

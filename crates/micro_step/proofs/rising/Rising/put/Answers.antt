@@ -1,4 +1,4 @@
-use Rattle.std.proofs.Common.{◌≡◌, ◌<◌, ◌≤◌, ◌||◌, ◌==◌, List, ℕ, length, refl, ap, ◌∙◌, sym, subst, arith}
+use Rattle.std.proofs.Common.{◌<◌, ◌≤◌, ◌||◌, ◌==◌, List, ℕ, length, refl, ap, ◌∙◌, sym, subst, arith}
 use Rattle.std.specs.Vec.{vec_capacity}
 use Rattle.micro_step.specs.Rising.{AreKept, IsPlaceFor, Numbers, among}
 use Rattle.micro_step.proofs.RisingLemmas.{room_at, kept_at, among_put, put_behind}
