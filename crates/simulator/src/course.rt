@@ -179,7 +179,7 @@ impl<'m, 'a> Course<'m, 'a> {
         answer
     }
 
-    /// Whether a whole line is held that is not skipped, so that `next_event` reads nothing.
+    /// Whether a line that is not skipped is held as far as it is told, so that `next_event` reads nothing.
     pub fn holds_event(&self) -> bool {
         let _ = &self.turns;
         holds_event(&self.reader)

@@ -1,4 +1,4 @@
-use Rattle.std.proofs.Common.{◌≤◌, ◌<◌, ◌+◌, ℕ, refl, arith}
+use Rattle.std.proofs.Common.{◌+◌, refl, arith}
 use Rattle.micro_step.specs.Sets.{has}
 use Rattle.micro_step.proofs.PlaceLemmas.{none_left}
 use Rattle.trace_texts.proofs.events.lone.Goals as goal

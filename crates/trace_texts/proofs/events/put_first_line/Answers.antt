@@ -1,4 +1,4 @@
-use Rattle.std.proofs.Common.{ℕ, arith}
+use Rattle.std.proofs.Common.{arith}
 use Rattle.rsml_meaning.specs.Instances.{events}
 use Rattle.state_tree.proofs.Lists.{within_get}
 use Rattle.micro_step.specs.Sets.{has}

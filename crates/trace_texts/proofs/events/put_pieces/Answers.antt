@@ -1,4 +1,4 @@
-use Rattle.std.proofs.Common.{◌≡◌, ◌≤◌, ◌<◌, ℕ, List, false, sym, ap, ◌∙◌, flat_map, refl, arith}
+use Rattle.std.proofs.Common.{List, sym, ap, ◌∙◌, flat_map, refl, arith}
 use Rattle.rsml_meaning.specs.Words.{Instance}
 use Rattle.rsml_meaning.specs.Instances.{events}
 use Rattle.rsml_meaning.specs.Trace.{round_line}

@@ -1,4 +1,4 @@
-use Rattle.std.proofs.Common.{◌≡◌, ap, ◌∙◌, subst}
+use Rattle.std.proofs.Common.{◌≡◌, ◌∙◌, subst}
 use Rattle.micro_step.specs.Rows.{bits_of, member_rows}
 use Rattle.simulator.specs.Simulation.{Simulation}
 use Rattle.simulator.proofs.simulator.Simulator.rows.Goals as goal
