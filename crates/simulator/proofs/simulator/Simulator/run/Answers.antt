@@ -135,4 +135,4 @@ returns-clause-sink_count g c =
     let last = c.finish.ensures.count in
     let name_is = c.finish.ensures.same _ _ _ _ c.new-out.ensures.state (c.put_last_line.ensures.same ∙ c.follow_all-end.ensures.counted.same) in
     let within : g.K.Sink.faults c.args.sink.now ≤ g.K.Sink.faults c.finish.new.self.0 = omega (arith, begun, followed, line, last) in
-    search rules
+    grind (rules, arith) steps 30000000
