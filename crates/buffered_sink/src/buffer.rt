@@ -1,4 +1,4 @@
-ghost use Rattle.std.specs.Prelude.{◌≡◌, ◌≢◌, ◌+◌, ◌-◌, ◌<◌, ◌≤◌, [], ◌++◌, length, take, drop, vec_len, IfOk};
+ghost use Rattle.std.specs.Prelude.{◌≡◌, ◌≢◌, ◌↔◌, ◌+◌, ◌-◌, ◌<◌, ◌≤◌, [], ◌++◌, true, false, length, take, drop, vec_len, IfOk};
 ghost use Rattle.buffered_sink.specs.Buffering.{none_waiting};
 
 use rsml_base::NoMemory;
@@ -63,6 +63,20 @@ impl Buffer {
         let end = self.len + bytes.len();
         self.bytes[self.len..end].copy_from_slice(bytes);
         self.len = end;
+    }
+
+    /// Has bytes wait where there is room for all of them, and says whether there was.
+    pub(crate) fn push_all(&mut self, bytes: &[u8]) -> bool
+        ensures fits { (result ≡ true) ↔ (length self.old.bytes + length bytes.now ≤ self.old.room) }
+        ensures yes { result ≡ true → self.new.bytes ≡ self.old.bytes ++ bytes.now }
+        ensures no { result ≡ false → self.new ≡ self.old }
+        ensures room { self.new.room ≡ self.old.room }
+    {
+        if bytes.len() > self.bytes.len() - self.len {
+            return false;
+        }
+        self.push(bytes);
+        true
     }
 
     /// Has bytes from the front of `bytes` wait, as many as there is room for, and says how many.

@@ -20,6 +20,7 @@ pub struct BufferedSink<'s, K: Sink> {
 
 impl<'s, K: Sink> BufferedSink<'s, K> {
     ghost use Rattle.std.specs.Prelude.{◌≡◌, true, false, []};
+    ghost use Rattle.text_writer.specs.Writes.{Writes};
     ghost use Rattle.buffered_sink.specs.Buffering.{begins, Flushes, Finishes};
     ghost use Rattle.buffered_sink.specs.Parts.{waiting, written_in, text_of, state_of};
 
@@ -57,6 +58,24 @@ impl<'s, K: Sink> BufferedSink<'s, K> {
         self.whole = write_waiting(self.sink, self.buffer, self.whole);
     }
 
+    /// Writes bytes for which there is no room at once, as much at a time as there is room for.
+    #[cold]
+    #[inline(never)]
+    fn put_parts(&mut self, bytes: &[u8])
+        requires { self.old.whole ≡ true }
+        ensures { Writes (state_of K.faults K.written self.old) (text_of K.written self.old) bytes.now
+            (state_of K.faults K.written self.new) (text_of K.written self.new) }
+    {
+        let mut at = self.buffer.fill(bytes);
+        while at < bytes.len() {
+            self.flush();
+            if !self.is_whole() {
+                return;
+            }
+            at += self.buffer.fill(&bytes[at..]);
+        }
+    }
+
     /// Writes what waits, and gives the sink back. Whether nothing was refused.
     pub fn finish(self) -> bool
         ensures { Finishes (state_of K.faults K.written self.entry) (text_of K.written self.entry)
@@ -80,16 +99,8 @@ impl<'s, K: Sink> Writer for BufferedSink<'s, K> {
     ghost state = { state_of K.faults K.written };
 
     fn put(&mut self, bytes: &[u8]) {
-        if !self.whole {
-            return;
-        }
-        let mut at = self.buffer.fill(bytes);
-        while at < bytes.len() {
-            self.flush();
-            if !self.is_whole() {
-                return;
-            }
-            at += self.buffer.fill(&bytes[at..]);
+        if self.whole && !self.buffer.push_all(bytes) {
+            self.put_parts(bytes);
         }
     }
 }

@@ -61,12 +61,6 @@ pub more_told : (told : Option Bytes) (at n : ℕ) (old new first : Bytes) → I
 more_told None at n old new first held added = tt
 more_told (Some file) at n old new first held added = λ h. more_held file at old new added.piece added.same (held h) added.of.same
 
-pub end_told : (told : Option Bytes) (at n : ℕ) (old new : Bytes) → n ≡ 0 → Adds told (at + length old) old new n → IfSome told (λ file. length file ≤ at + length new)
-end_told None at n old new nothing added = tt
-end_told (Some file) at n old new nothing added =
-    let past : length file ≤ at + length old = added.of.none (added.size ∙ nothing) in
-    omega (arith, past, ap length added.same, length-append old added.piece)
-
 pub added_length : (told : Option Bytes) (at n : ℕ) (old new : Bytes) → Adds told at old new n → length new ≡ length old + n
 added_length told at n old new added = omega (arith, ap length added.same, length-append old added.piece, added.size)
 

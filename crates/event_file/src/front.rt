@@ -28,6 +28,7 @@ fn window(bytes: &[u8], most: usize) -> &[u8]
 
 /// What the bytes tell of their first line, which may have at most so many. No more than these and
 /// one are looked at.
+#[inline(always)]
 pub fn front_of(bytes: &[u8], most: usize) -> Front
     ensures { IsFront most bytes.now result }
 {

@@ -1,13 +1,12 @@
 -- The number that digits write, digit by digit.
-use Rattle.std.proofs.Common.{◌≡◌, ℕ, zero, suc, ◌+◌, ◌-◌, ◌*◌, ◌^◌, ◌<◌, ◌≤◌, Bool, true, false, List, [], ◌∷◌, length, drop, get_or, Option, Some, None, refl, sym, ap, ◌∙◌, arith}
-use Rattle.std.specs.Prelude.{if◌then◌else◌, ◌==◌, ◌&&◌, not, min, fold, ℤ, pos, negsuc, neg_ℤ}
+use Rattle.std.proofs.Common.{◌≡◌, ℕ, ◌+◌, ◌-◌, ◌*◌, ◌^◌, ◌<◌, ◌≤◌, Bool, true, false, [], ◌∷◌, length, drop, get_or, Option, Some, None, refl, sym, ap, ◌∙◌, arith}
+use Rattle.std.specs.Prelude.{if◌then◌else◌, ◌==◌, ◌&&◌, min, fold}
 use Rattle.std.specs.Option.{option_map}
 use Rattle.std.specs.Char.{is_ascii_digit}
 use Rattle.std.specs.Str.{byte, all_ascii_digits}
-use Rattle.std.proofs.lemmas.Bool.{eqb-true}
-use Rattle.std.proofs.lemmas.List.{drop_all, drop_more, nil_from_length}
-use Rattle.rsml_meaning.specs.EventLines.{Bytes, is_empty, digits_number, signed_number}
-use Rattle.event_lines.specs.helpers.Capped.{capped, capped_signed}
+use Rattle.std.proofs.lemmas.List.{drop_all, drop_more}
+use Rattle.rsml_meaning.specs.EventLines.{Bytes, digits_number}
+use Rattle.event_lines.specs.helpers.Capped.{capped}
 
 -- the number that more digits make of a number
 abbrev pub counted : ℕ → Bytes → ℕ
@@ -51,39 +50,3 @@ digits_are (c ∷ cs) h = by (all_ascii_digits (c ∷ cs))
     by : (b : Bool) → option_map capped (if b then Some (counted 0 (c ∷ cs)) else None) ≡ (if b then Some (capped (counted 0 (c ∷ cs))) else None)
     by true = refl
     by false = refl
-
-pub no_digits : (text : Bytes) → true ≡ (length text == 0) → None ≡ option_map capped (digits_number text)
-no_digits text h = sym (ap (λ (z : Bytes). option_map capped (digits_number z)) (nil_from_length text (eqb-true (length text) 0 (sym h))))
-
--- Signs.
-
-capped_minus : (n : ℕ) → capped_signed (neg_ℤ (pos n)) ≡ neg_ℤ (pos (capped n))
-capped_minus zero = refl
-capped_minus (suc n) = refl
-
-pub no_sign : (text : Bytes) → length text ≡ 0 → None ≡ option_map capped_signed (signed_number text)
-no_sign text h = sym (ap (λ (z : Bytes). option_map capped_signed (signed_number z)) (nil_from_length text h))
-
--- the number behind a minus
-pub minus_is : (text digits : Bytes) (c : ℕ) (o : Option ℕ) → text ≡ c ∷ digits → (c == byte "-") ≡ true → o ≡ option_map capped (digits_number digits) →
-    option_map capped_signed (signed_number text) ≡ option_map (λ n. neg_ℤ (pos n)) o
-minus_is text digits c o e h is =
-    ap (λ (z : Bytes). option_map capped_signed (signed_number z)) e
-    ∙ ap (λ b. option_map capped_signed (if b then option_map (λ n. neg_ℤ (pos n)) (digits_number digits) else option_map pos (digits_number (c ∷ digits)))) h
-    ∙ by (digits_number digits) ∙ sym (ap (option_map (λ n. neg_ℤ (pos n))) is)
-  where
-    by : (o : Option ℕ) → option_map capped_signed (option_map (λ n. neg_ℤ (pos n)) o) ≡ option_map (λ n. neg_ℤ (pos n)) (option_map capped o)
-    by None = refl
-    by (Some n) = ap Some (capped_minus n)
-
--- the number without a minus
-pub plus_is : (text digits : Bytes) (c : ℕ) (o : Option ℕ) → text ≡ c ∷ digits → (c == byte "-") ≡ false → o ≡ option_map capped (digits_number text) →
-    option_map capped_signed (signed_number text) ≡ option_map pos o
-plus_is text digits c o e h is =
-    ap (λ (z : Bytes). option_map capped_signed (signed_number z)) e
-    ∙ ap (λ b. option_map capped_signed (if b then option_map (λ n. neg_ℤ (pos n)) (digits_number digits) else option_map pos (digits_number (c ∷ digits)))) h
-    ∙ by (digits_number (c ∷ digits)) ∙ ap (λ (z : Bytes). option_map pos (option_map capped (digits_number z))) (sym e) ∙ sym (ap (option_map pos) is)
-  where
-    by : (o : Option ℕ) → option_map capped_signed (option_map pos o) ≡ option_map pos (option_map capped o)
-    by None = refl
-    by (Some n) = refl

@@ -1,5 +1,5 @@
 -- The fields of a line one after another are its fields at once.
-use Rattle.std.proofs.Common.{◌≡◌, ℕ, zero, suc, ◌+◌, ◌<◌, Bool, true, false, List, [], ◌∷◌, ◌++◌, map, length, drop, get_or, Option, Some, None, Result, Ok, Err, ℤ, refl, sym, ap, ◌∙◌, subst, append_assoc, arith}
+use Rattle.std.proofs.Common.{◌≡◌, ℕ, ◌+◌, ◌<◌, Bool, true, false, List, [], ◌∷◌, ◌++◌, map, length, drop, get_or, Option, Some, None, Result, Ok, Err, ℤ, refl, sym, ap, ◌∙◌, subst, append_assoc, arith}
 use Rattle.std.specs.Prelude.{if◌then◌else◌, ◌&&◌, zip, nat_eq, codes, IsTrue}
 use Rattle.std.specs.List.{list_all, starts_with, AllZip}
 use Rattle.std.specs.Option.{option_map}
@@ -11,7 +11,7 @@ use Rattle.rsml_meaning.specs.Cells.{InputType, input_type, is_of}
 use Rattle.rsml_meaning.specs.Interfaces.{ReceiveInstance}
 use Rattle.rsml_meaning.specs.EventLines.{Bytes, value_number, all_some, Fields, add_value, fields, E4, E5, E6, E7, Outcome, breaks, tells, read_values, read_fields}
 use Rattle.event_lines.specs.declared.line_fault.LineFault.{LineFault}
-use Rattle.event_lines.specs.declared.line_fault.LineFault.TheVariants.{NotUtf8, UnknownInterface, BadIndex, WrongField, ExtraWord, NotAValue, OutOfRange}
+use Rattle.event_lines.specs.declared.line_fault.LineFault.TheVariants.{WrongField, ExtraWord, NotAValue, OutOfRange}
 use Rattle.event_lines.specs.Told.{rule_of}
 use Rattle.event_lines.specs.helpers.Values.{read_value, TypedField, value_text, lower, Numbers, with_value, field_numbers}
 use Rattle.event_lines.specs.declared.field.Field.{Field}

@@ -5,7 +5,7 @@ use Rattle.std.specs.Option.{option_map, option_and_then, option_copied}
 use Rattle.std.specs.Cmp.{first_so, second_so}
 use Rattle.std.proofs.lemmas.Bool.{cases_lt}
 use Rattle.std.proofs.lemmas.List.{length-map, length_push, map_push}
-use Rattle.std.proofs.lemmas.Option.{slice_get-map, slice_get_within, same_Some}
+use Rattle.std.proofs.lemmas.Option.{slice_get-map, same_Some}
 use Rattle.rsml_syntax.specs.declared.syntax.Spec.{Spec}
 use Rattle.rsml_syntax.specs.declared.syntax.Decl.{Decl}
 use Rattle.rsml_syntax.specs.declared.syntax.Decl.TheVariants as decl
@@ -21,7 +21,7 @@ use Rattle.rsml_names.proofs.Gathering.{split}
 use Rattle.rsml_scopes.proofs.Globals.{meaning_is}
 use Rattle.event_lines.specs.declared.form.Form.{Form}
 use Rattle.event_lines.specs.helpers.Declared.{declared_by, types_of}
-use Rattle.event_lines.specs.helpers.Forms.{field_of, listed, AreWithin, index_of, Written, written, declared, declared_from, after, IsWithin, AreForms, IsFormOf}
+use Rattle.event_lines.specs.helpers.Forms.{listed, index_of, Written, written, declared, declared_from, after, IsWithin, AreForms, IsFormOf}
 
 -- Lists.
 

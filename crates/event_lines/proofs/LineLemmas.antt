@@ -1,10 +1,9 @@
 -- What a line comes to, by its parts.
-use Rattle.std.proofs.Common.{◌≡◌, ℕ, zero, suc, ◌+◌, ◌-◌, ◌<◌, ◌≤◌, Bool, true, false, List, [], ◌∷◌, ◌++◌, map, length, take, drop, slice_get, Option, Some, None, Result, Ok, Err, ℤ, refl, sym, ap, ◌∙◌, subst, arith, length-take}
-use Rattle.std.specs.Prelude.{if◌then◌else◌, IsTrue, IfOk, IfErr}
+use Rattle.std.proofs.Common.{◌≡◌, ℕ, ◌+◌, ◌-◌, ◌≤◌, Bool, true, false, List, [], ◌∷◌, map, length, take, slice_get, Option, Some, None, Result, Ok, Err, ℤ, refl, sym, ap, ◌∙◌, subst, arith}
+use Rattle.std.specs.Prelude.{if◌then◌else◌, IsTrue, IfOk, IfErr, MatchResult, is_ok}
 use Rattle.std.specs.List.{AllZip}
-use Rattle.std.specs.Option.{option_map, option_and_then}
 use Rattle.std.specs.Str.{is_utf8, IsUtf8}
-use Rattle.std.proofs.lemmas.Str.{IsUtf8-from_is_utf8}
+use Rattle.std.proofs.lemmas.Str.{IsUtf8-from_is_utf8, is_utf8-from_IsUtf8}
 use Rattle.std.proofs.lemmas.List.{length-map, length-take-le}
 use Rattle.rsml_syntax.specs.declared.syntax.Spec.{Spec}
 use Rattle.rsml_syntax.specs.declared.syntax.Mention.{Mention}
@@ -141,6 +140,11 @@ not_utf8 line h = by (is_utf8 line) refl
     by : (b : Bool) → is_utf8 line ≡ b → b ≡ false
     by true e = absurd (h (IsUtf8-from_is_utf8 line e))
     by false e = refl
+
+-- what a check of a line tells
+pub told_by : {V E : Type 0} (line : lines.Bytes) (A : V → Type 0) (B : E → Type 0) (r : Result V E) → MatchResult r (λ v. A v × IsUtf8 line) (λ e. (IsUtf8 line → ⊥) × B e) → is_ok r ≡ is_utf8 line
+told_by line A B (Ok v) h = sym (is_utf8-from_IsUtf8 line h.1)
+told_by line A B (Err e) h = sym (not_utf8 line h.0)
 
 pub says_ok : (s : Spec) (whole part : lines.Outcome) (r : Result Received LineFault) (values : List ℤ) → whole ≡ part → Says s part r values → IfOk r (λ x. IsReceived s whole x values)
 says_ok s whole part (Ok x) values e h = subst (λ (o : lines.Outcome). IsReceived s o x values) (sym e) h

@@ -1,8 +1,8 @@
 -- The most fields of forms are the most inputs of receives.
-use Rattle.std.proofs.Common.{◌≡◌, ℕ, zero, suc, ◌+◌, ◌<◌, ◌≤◌, Bool, true, false, List, [], ◌∷◌, ◌++◌, map, flat_map, length, take, get_or, Option, Some, None, refl, sym, ap, ◌∙◌, subst, arith}
+use Rattle.std.proofs.Common.{◌≡◌, ℕ, ◌+◌, ◌<◌, ◌≤◌, Bool, true, false, List, [], ◌∷◌, ◌++◌, map, flat_map, length, take, get_or, Option, Some, None, refl, sym, ap, ◌∙◌, subst, arith}
 use Rattle.std.specs.Prelude.{if◌then◌else◌, nat_lt, is_some}
 use Rattle.std.specs.Option.{option_map}
-use Rattle.std.proofs.lemmas.Bool.{ltb-true, ltb-false}
+use Rattle.std.proofs.lemmas.Bool.{ltb-false}
 use Rattle.std.proofs.lemmas.List.{length-map, take_more}
 use Rattle.std.proofs.lemmas.Option.{same_Some}
 use Rattle.rsml_syntax.specs.declared.syntax.Decl.{Decl}
@@ -13,7 +13,7 @@ use Rattle.rsml_syntax.specs.text.Names.{Name}
 use Rattle.rsml_syntax.specs.rules.Globals.{Globals, many, up_to, indices}
 use Rattle.rsml_meaning.specs.Words.{Each}
 use Rattle.rsml_meaning.specs.Cells.{InputType}
-use Rattle.rsml_meaning.specs.Interfaces.{ReceiveInstance, new_receive, receives_of}
+use Rattle.rsml_meaning.specs.Interfaces.{new_receive, receives_of}
 use Rattle.rsml_meaning.specs.Truth.{within, instance}
 use Rattle.event_lines.specs.declared.form.Form.{Form}
 use Rattle.event_lines.specs.helpers.Forms.{field_of, listed, Written, written, declared, declared_from, fields_in}

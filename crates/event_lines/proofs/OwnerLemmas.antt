@@ -1,11 +1,11 @@
 -- The declarations of global names, by their numbers.
-use Rattle.std.proofs.Common.{◌≡◌, ℕ, zero, suc, ◌+◌, ◌<◌, ◌≤◌, List, [], ◌∷◌, ◌++◌, map, flat_map, length, replicate, drop, get_or, slice_get, Option, Some, None, refl, sym, ap, ◌∙◌, arith, append_assoc}
+use Rattle.std.proofs.Common.{◌≡◌, ℕ, zero, suc, ◌+◌, ◌<◌, List, [], ◌∷◌, ◌++◌, map, flat_map, length, replicate, drop, get_or, slice_get, Option, Some, None, refl, sym, ap, ◌∙◌, append_assoc}
 use Rattle.std.specs.Option.{option_map, option_map_or}
 use Rattle.std.proofs.lemmas.List.{map-append, length_push}
 use Rattle.std.proofs.lemmas.Option.{slice_get-map}
 use Rattle.rsml_syntax.specs.declared.syntax.Decl.{Decl}
 use Rattle.rsml_syntax.specs.text.Names.{Name, place_of}
-use Rattle.rsml_syntax.specs.rules.Globals.{Known, names_of, values_of, known_values, known_by, globals, meaning}
+use Rattle.rsml_syntax.specs.rules.Globals.{Known, names_of, values_of, known_values, known_by}
 use Rattle.rsml_names.proofs.Gathering.{split}
 use Rattle.event_lines.specs.helpers.Declared.{owners_from, declared_by}
 

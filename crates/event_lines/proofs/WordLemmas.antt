@@ -1,11 +1,11 @@
 -- The words of a text, one after another.
-use Rattle.std.proofs.Common.{◌≡◌, ℕ, zero, suc, ◌+◌, ◌-◌, ◌<◌, ◌≤◌, Bool, true, false, cond, List, [], ◌∷◌, Option, Some, None, length, get_or, take, drop, refl, sym, ap, ◌∙◌, arith, length-drop}
-use Rattle.std.specs.Prelude.{filter, not, position, nat_lt, if◌then◌else◌, ◌==◌}
+use Rattle.std.proofs.Common.{◌≡◌, ℕ, suc, ◌+◌, ◌-◌, ◌<◌, ◌≤◌, Bool, true, false, cond, List, [], ◌∷◌, Option, Some, None, length, get_or, take, drop, refl, sym, ap, ◌∙◌, arith, length-drop, true≢false}
+use Rattle.std.specs.Prelude.{filter, not, position, nat_le, nat_lt, if◌then◌else◌, ◌==◌, ◌||◌, ◌≢◌, is_some}
 use Rattle.std.specs.List.{position_or_len}
 use Rattle.std.specs.Str.{byte}
-use Rattle.std.proofs.lemmas.Bool.{ltb-true, ltb-false}
+use Rattle.std.proofs.lemmas.Bool.{eqb-true, leb-false, ltb-true, ltb-false}
 use Rattle.std.proofs.lemmas.List.{drop_all, length-take-le}
-use Rattle.std.proofs.lemmas.List.Sums.{prefix_len-le-length, position_or_len_is}
+use Rattle.std.proofs.lemmas.List.Sums.{prefix_len-le-length, position_or_len_is, fails_before_first}
 use Rattle.std.proofs.lemmas.Option.{cond_some}
 use Rattle.memchr.specs.Find.{IsFirstByte}
 use Rattle.rsml_meaning.specs.EventLines.{Bytes, is_blank, is_empty, before_pieces, pieces, words, index_part}
@@ -21,7 +21,7 @@ before_blank t = position_or_len is_blank t
 abbrev some_of : List Bytes → List Bytes
 some_of xs = filter (λ piece. not (is_empty piece)) xs
 
-pub within : (p : ℕ → Bool) (t : Bytes) → position_or_len p t ≤ length t
+within : (p : ℕ → Bool) (t : Bytes) → position_or_len p t ≤ length t
 within p t = prefix_len-le-length (λ c. not (p c)) t
 
 not_true : (b : Bool) → (b ≡ true → ⊥) → b ≡ false
@@ -38,6 +38,53 @@ found_first p t k first =
 pub none_first : (p : ℕ → Bool) (t : Bytes) → IsFirstByte p t None → length t ≡ position_or_len p t
 none_first p t none =
     sym (position_or_len_is p t (length t) 0 (omega arith) (λ j before. not_true (p (get_or t j 0)) (none j (omega arith) before)) (λ l. absurd (omega (arith, l))))
+
+-- where a byte passes first, and that none does
+
+pub place_is : (p : ℕ → Bool) (t : Bytes) (k : ℕ) → Some k ≡ position p t → (k ≡ position_or_len p t) × (k < length t)
+place_is p t k h =
+    let x = cond_some (nat_lt (position_or_len p t) (length t)) (position_or_len p t) k (sym h) in
+    let same : position_or_len p t ≡ k = x.1 in
+    let below : position_or_len p t < length t = ltb-true (position_or_len p t) (length t) x.0 in
+    (sym same, omega (arith, same, below))
+
+pub none_is : (p : ℕ → Bool) (t : Bytes) → None ≡ position p t → length t ≡ position_or_len p t
+none_is p t h = by (nat_lt (position_or_len p t) (length t)) refl h
+  where
+    by : (b : Bool) → nat_lt (position_or_len p t) (length t) ≡ b → None ≡ cond b (Some (position_or_len p t)) None → length t ≡ position_or_len p t
+    by true e h = cc
+    by false e h =
+        let past : length t ≤ position_or_len p t = ltb-false (position_or_len p t) (length t) e in
+        omega (arith, past, within p t)
+
+-- A byte that is not above a space. Each blank is one.
+
+abbrev is_low : ℕ → Bool
+is_low c = nat_le c (byte " ")
+
+high_is_none : (c : ℕ) → is_low c ≡ false → is_blank c ≡ false
+high_is_none c h = not_true (is_blank c) (λ b. by (c == byte " ") refl b)
+  where
+    above : byte " " < c
+    above = leb-false c (byte " ") h
+
+    by : (s : Bool) → (c == byte " ") ≡ s → (s || c == byte "\t") ≡ true → ⊥
+    by true e b = let same : c ≡ byte " " = eqb-true c (byte " ") e in omega (arith, same, above)
+    by false e b = let same : c ≡ byte "\t" = eqb-true c (byte "\t") b in omega (arith, same, above)
+
+-- no blank stands before the first such byte
+high_before : (t : Bytes) (k : ℕ) → k ≡ position_or_len is_low t → (j : ℕ) → j < k → is_blank (get_or t j 0) ≡ false
+high_before t k e j before = high_is_none (get_or t j 0) (fails_before_first is_low t j 0 (omega (arith, e, before)))
+
+pub low_blank : (t : Bytes) (k : ℕ) → Some k ≡ position is_low t → is_blank (get_or t k 0) ≡ true → k ≡ before_blank t
+low_blank t k h blank =
+    let at = place_is is_low t k h in
+    let below : k < length t = at.1 in
+    sym (position_or_len_is is_blank t k 0 (omega (arith, below)) (high_before t k at.0) (λ _. blank))
+
+pub none_low : (t : Bytes) → None ≡ position is_low t → length t ≡ before_blank t
+none_low t h =
+    sym (position_or_len_is is_blank t (length t) 0 (omega arith) (high_before t (length t) (none_is is_low t h)) (λ l. absurd (omega (arith, l))))
 
 one_more : (n : ℕ) → 1 + n ≡ suc n
 one_more n = omega arith
@@ -109,11 +156,7 @@ abbrev start : Bytes → Option ℕ
 start t = position (λ c. not (is_blank c)) t
 
 start_is : (t : Bytes) (k : ℕ) → Some k ≡ start t → (k ≡ before_other t) × (k < length t)
-start_is t k h =
-    let p = cond_some (nat_lt (before_other t) (length t)) (before_other t) k (sym h) in
-    let same : before_other t ≡ k = p.1 in
-    let below : before_other t < length t = ltb-true (before_other t) (length t) p.0 in
-    (sym same, omega (arith, same, below))
+start_is t k h = place_is (λ c. not (is_blank c)) t k h
 
 pub start_within : (t : Bytes) (k : ℕ) → Some k ≡ start t → k ≤ length t
 start_within t k h = let below : k < length t = (start_is t k h).1 in omega (arith, below)
@@ -141,6 +184,19 @@ next_word t u k w h e is =
     ∙ kept (take (before_blank u) u) f.others (some_taken u some (ap before_other here ∙ at_other t))
     ∙ ap (λ xs. take (before_blank u) u ∷ xs) f.behind
     ∙ ap (λ n. take n u ∷ words (drop n u)) (sym is)
+
+-- whether there is a word, by where it begins
+
+pub has_none : (t : Bytes) (o : Option ℕ) → o ≡ start t → is_some o ≡ false → words t ≡ []
+has_none t None e h = no_word t e
+has_none t (Some k) e h = absurd (true≢false h)
+
+pub has_some : (t : Bytes) (o : Option ℕ) → o ≡ start t → is_some o ≡ true → words t ≢ []
+has_some t None e h = λ _. absurd (true≢false (sym h))
+has_some t (Some k) e h = λ none.
+    let next = next_word t (drop k t) k (before_blank (drop k t)) e refl refl in
+    let no : 0 ≡ suc (length (words (drop (before_blank (drop k t)) (drop k t)))) = ap length (sym none ∙ next) in
+    absurd (omega (arith, no))
 
 -- the rest of a word behind its name
 pub index_part_is : (word : Bytes) (n : ℕ) → n ≡ position_or_len (λ c. c == byte "[") word → drop n word ≡ index_part word

@@ -1,5 +1,6 @@
 ghost use Rattle.std.specs.Prelude.{◌≡◌, ◌≤◌, ◌∷◌, IfErr, IfOk, MatchOption, MatchResult, None, length, slice_get};
 ghost use Rattle.std.specs.Option.{option_and_then, option_copied};
+ghost use Rattle.std.specs.Str.{is_utf8};
 ghost use Rattle.rsml_meaning.specs.Words.{Each};
 ghost use Rattle.rsml_meaning.specs.Instances.{globals_of};
 ghost use Rattle.rsml_meaning.specs.Interfaces.{receives};
@@ -96,6 +97,13 @@ fn fields_in(form: Option<&Form<'_>>) -> usize
     }
 }
 
+/// Whether a line is UTF-8. Most are ASCII, which is told faster.
+fn is_text(line: &[u8]) -> bool
+    ensures { result ≡ is_utf8 line.now }
+{
+    line.is_ascii() || from_utf8(line).is_ok()
+}
+
 impl<'a> LineForms<'a> {
     /// How the event lines of a specification are written.
     pub fn build(alloc: Global, checked: &'a Checked) -> Result<LineForms<'a>, NoMemory>
@@ -181,9 +189,10 @@ impl<'a> LineForms<'a> {
         ensures err { IfErr result (λ fault.
             lines.read_line self.now line.now ≡ lines.breaks (rule_of fault)) }
     {
-        match from_utf8(line) {
-            Ok(_) => self.read_words(line, values),
-            Err(_) => Err(LineFault::NotUtf8),
+        if is_text(line) {
+            self.read_words(line, values)
+        } else {
+            Err(LineFault::NotUtf8)
         }
     }
 }

@@ -10,7 +10,7 @@ use crate::field::Field;
 use crate::known::behind;
 use crate::line_fault::LineFault;
 use crate::value_type::ValueType;
-use crate::words::first_word;
+use crate::words::{first_word, has_word};
 
 /// What stands behind a `=` that a text begins with.
 fn behind_mark(rest: &[u8]) -> Option<&[u8]>
@@ -66,6 +66,7 @@ fn nth<'f>(fields: &[Field<'f>], place: usize) -> Field<'f>
 }
 
 /// Reads a text by the type of this number.
+#[inline(never)]
 #[tactic(auto, using(std::proofs::lemmas::List::get_or_default))]
 fn read_value(types: &[ValueType<'_>], kind: usize, text: &[u8]) -> Result<i64, LineFault>
     requires { kind < length types.now }
@@ -154,7 +155,7 @@ pub fn read_fields(
             Err(error) => return Err(error),
         }
     }
-    if first_word(rest).is_some() {
+    if has_word(rest) {
         return Err(LineFault::ExtraWord);
     }
     match fault {

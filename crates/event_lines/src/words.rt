@@ -1,9 +1,9 @@
-ghost use Rattle.std.specs.Prelude.{◌≡◌, ◌==◌, ◌≤◌, ◌∷◌, [], MatchOption, length, not, position};
+ghost use Rattle.std.specs.Prelude.{◌≡◌, ◌≢◌, ◌==◌, ◌≤◌, ◌∷◌, [], MatchOption, false, length, nat_le, not, position, true};
 ghost use Rattle.std.specs.List.{position_or_len};
 ghost use Rattle.std.specs.Str.{byte};
 ghost use Rattle.rsml_meaning.specs.EventLines.{index_part, is_blank, name_part, words};
 
-use memchr::{memchr, memchr2};
+use memchr::memchr2;
 
 /// A space or a tab.
 fn is_blank(byte: u8) -> bool
@@ -19,8 +19,16 @@ fn start(text: &[u8]) -> Option<usize>
     text.iter().position(|byte| !is_blank(*byte))
 }
 
+/// The first byte that is not above a space, as no blank is.
+fn first_low(text: &[u8]) -> Option<usize>
+    ensures { result ≡ position (λ c. nat_le c (byte " ")) text.now }
+{
+    text.iter().position(|byte| *byte <= b' ')
+}
+
 /// How many bytes stand before the first blank.
-fn width(text: &[u8]) -> usize
+#[inline(never)]
+fn width_among_low(text: &[u8]) -> usize
     ensures is { result ≡ position_or_len is_blank text.now }
     ensures within { result ≤ length text.now }
 {
@@ -30,7 +38,25 @@ fn width(text: &[u8]) -> usize
     }
 }
 
+/// The same. Of most texts it asks but one thing for each byte: the first that is not above a space is the first blank.
+fn width(text: &[u8]) -> usize
+    ensures is { result ≡ position_or_len is_blank text.now }
+    ensures within { result ≤ length text.now }
+{
+    match first_low(text) {
+        Some(place) => {
+            if is_blank(text[place]) {
+                place
+            } else {
+                width_among_low(text)
+            }
+        }
+        None => text.len(),
+    }
+}
+
 /// The first word of a text, and the text behind it.
+#[inline(always)]
 #[tactic(auto, using(crate::proofs::WordLemmas::no_word, crate::proofs::WordLemmas::next_word, crate::proofs::WordLemmas::start_within))]
 pub fn first_word(text: &[u8]) -> Option<(&[u8], &[u8])>
     ensures { MatchOption result (words text.now ≡ [])
@@ -41,12 +67,27 @@ pub fn first_word(text: &[u8]) -> Option<(&[u8], &[u8])>
     Some(rest.split_at(width(rest)))
 }
 
+/// Whether a text has a word.
+pub fn has_word(text: &[u8]) -> bool
+    ensures none { result ≡ false → words text.now ≡ [] }
+    ensures some { result ≡ true → words text.now ≢ [] }
+{
+    start(text).is_some()
+}
+
+/// The first `[` of a word.
+fn bracket(word: &[u8]) -> Option<usize>
+    ensures { result ≡ position (λ c. c == byte "[") word.now }
+{
+    word.iter().position(|byte| *byte == b'[')
+}
+
 /// How many bytes of a word stand before its first `[`.
 fn name_width(word: &[u8]) -> usize
     ensures is { result ≡ position_or_len (λ c. c == byte "[") word.now }
     ensures within { result ≤ length word.now }
 {
-    match memchr(b'[', word) {
+    match bracket(word) {
         Some(width) => width,
         None => word.len(),
     }

@@ -1,6 +1,6 @@
 -- Rising numbers: one put in, and when two lists of them are one.
 use Rattle.std.proofs.Common.{◌≡◌, ℕ, zero, suc, ◌+◌, ◌-◌, ◌<◌, ◌≤◌, ◌==◌, ◌||◌, Bool, true, false, List, [], ◌∷◌, ◌++◌, length, get_or, slice_get, Some, None, Result, Ok, Err, IfErr, ⊎_elim, inl, inr, ◌⊎◌, refl, sym, ap, ◌∙◌, subst, true≢false, arith}
-use Rattle.std.specs.List.{insert}
+use Rattle.std.specs.List.{insert, list_any}
 use Rattle.std.proofs.lemmas.Bool.{eqb-true, ne_eqb, cases_eq, cases_lt}
 use Rattle.std.specs.Cmp.{nat_eq_equiv}
 use Rattle.std.proofs.lemmas.Option.{get_or_from_slice_get, slice_get_within}
@@ -31,6 +31,11 @@ or_again false false h = refl
 pub no_more : (a : Bool) → (a || false) ≡ a
 no_more true = refl
 no_more false = refl
+
+-- none is among no items
+pub none_among : {A : Type 0} (p : A → Bool) (xs : List A) → (length xs == 0) ≡ true → false ≡ list_any p xs
+none_among p [] h = refl
+none_among p (x ∷ xs) h = let no : length (x ∷ xs) ≡ 0 = eqb-true (length (x ∷ xs)) 0 h in absurd (omega (arith, no))
 
 same_number : (n k : ℕ) → (n == k) ≡ true → n ≡ k
 same_number n k h = eqb-true n k h

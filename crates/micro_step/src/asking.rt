@@ -12,6 +12,7 @@ use prepared_phrases::{Asked, Literal};
 use rsml_syntax::World;
 
 /// The truth of a guard in the world.
+#[inline(never)]
 pub fn ask(machine: &Machine<'_>, world: &World, memo: &mut Memo, guard: &FastGuard) -> bool
     requires world { IsWorld machine.now.base.spec world.now }
     requires knows { Knows machine.now.base world.now memo.old }
@@ -67,6 +68,7 @@ fn each_holds(machine: &Machine<'_>, world: &World, memo: &mut Memo, column: &[L
 }
 
 /// Whether some column is true in the world. Those after the first true one are not asked.
+#[inline(never)]
 fn some_column_holds(
     machine: &Machine<'_>,
     world: &World,
@@ -88,6 +90,7 @@ fn some_column_holds(
 }
 
 /// The truth of a guard in the world, by how it is asked.
+#[inline(always)]
 pub fn is_true(machine: &Machine<'_>, world: &World, memo: &mut Memo, asked: &Asked) -> bool
     requires world { IsWorld machine.now.base.spec world.now }
     requires knows { Knows machine.now.base world.now memo.old }

@@ -41,6 +41,9 @@ fn send_on(
     ensures guards { KnowsGuards machine.now world.now guards.new }
 {
     let there = candidates[event as usize].as_slice();
+    if there.is_empty() {
+        return;
+    }
     put_enabled(machine, world, memo, guards, there, sent);
 }
 

@@ -1,5 +1,5 @@
 -- How a guard is asked is what it says.
-use Rattle.std.proofs.Common.{◌≡◌, ℕ, suc, ◌<◌, Bool, true, false, not, ◌&&◌, ◌||◌, List, [], ◌∷◌, map, length, get_or, slice_index_or, refl, sym, ap, ◌∙◌, subst, nat_eq, true≢false, arith}
+use Rattle.std.proofs.Common.{◌≡◌, ℕ, suc, ◌<◌, Bool, true, false, not, ◌&&◌, ◌||◌, List, [], ◌∷◌, map, length, get_or, slice_index_or, Option, Some, is_some, unwrap_or, refl, sym, ap, ◌∙◌, subst, nat_eq, true≢false, arith}
 use Rattle.std.specs.Cmp.{first_so, second_so}
 use Rattle.std.specs.Cmp.Lexicographic.{pointwise}
 use Rattle.std.specs.List.{list_any, All}
@@ -15,8 +15,10 @@ use Rattle.and_or_tables.specs.Shape.{PhrasesBelow, cells_of, columns}
 use Rattle.and_or_tables.proofs.Columns.{width-ground}
 use Rattle.prepared_phrases.specs.declared.asked.Literal.{Literal}
 use Rattle.prepared_phrases.specs.contracts.asked.LiteralPartialEq.TheImpl as literal_eq
-use Rattle.rsml_meaning.proofs.Same.{nat_same}
-use Rattle.prepared_phrases.specs.Asked.{literal_truth, column_truth, columns_truth, wants, column_of, columns_of, ColumnBelow}
+use Rattle.rsml_meaning.proofs.Same.{nat_same, nat_itself}
+use Rattle.prepared_phrases.specs.declared.asked.Asked.{Asked}
+use Rattle.prepared_phrases.specs.declared.asked.Asked.TheVariants as asked
+use Rattle.prepared_phrases.specs.Asked.{literal_truth, column_truth, columns_truth, asked_truth, wants, column_of, columns_of, columns_in, ColumnBelow, HaveSameColumns}
 
 -- The truths of columns.
 
@@ -116,6 +118,44 @@ columns_same f (x ∷ xs) (y ∷ ys) h =
     λ i. column_same (f x) (f y) (first_so (pointwise equal_literals (f x) (f y)) rest h) i ∷ columns_same f xs ys (second_so (pointwise equal_literals (f x) (f y)) rest h) i
 columns_same f [] (y ∷ ys) h = absurd (true≢false (sym h))
 columns_same f (x ∷ xs) [] h = absurd (true≢false (sym h))
+
+-- Columns that are the same are compared as equal.
+
+literal_itself : (x : Literal) → equal_literals x x ≡ true
+literal_itself x = by x.phrase x.wanted
+  where
+    by : (p : ℕ) (a : Bool) → equal_literals (record { phrase = p; wanted = a }) (record { phrase = p; wanted = a }) ≡ true
+    by p true = ap (λ (b : Bool). b && true) (nat_itself p)
+    by p false = ap (λ (b : Bool). b && true) (nat_itself p)
+
+all_themselves : {A : Type 0} (E : A → A → Bool) → ((x : A) → E x x ≡ true) → (xs : List A) → pointwise E xs xs ≡ true
+all_themselves E itself [] = refl
+all_themselves E itself (x ∷ xs) = λ i. itself x i && all_themselves E itself xs i
+
+of_mapped : {A : Type 0} (E : List Literal → List Literal → Bool) (f : A → List Literal) (xs ys : List A) → pointwise (λ x y. E (f x) (f y)) xs ys ≡ pointwise E (map f xs) (map f ys)
+of_mapped E f [] [] = refl
+of_mapped E f [] (y ∷ ys) = refl
+of_mapped E f (x ∷ xs) [] = refl
+of_mapped E f (x ∷ xs) (y ∷ ys) = ap (λ (b : Bool). E (f x) (f y) && b) (of_mapped E f xs ys)
+
+pub same_columns : {A : Type 0} (f : A → List Literal) (xs ys : List A) → map f xs ≡ map f ys → pointwise (λ x y. pointwise equal_literals (f x) (f y)) xs ys ≡ true
+same_columns f xs ys same =
+    of_mapped (pointwise equal_literals) f xs ys
+    ∙ ap (λ (lists : List (List Literal)). pointwise (pointwise equal_literals) lists (map f ys)) same
+    ∙ all_themselves (pointwise equal_literals) (all_themselves equal_literals literal_itself) (map f ys)
+
+-- Guards that have the same columns are true together.
+
+pub same_list : (xs ys : List (List Literal)) → Some xs ≡ Some ys → xs ≡ ys
+same_list xs ys same = ap (λ (o : Option (List (List Literal))). unwrap_or o []) same
+
+truth_of_columns : (truths : List Bool) (a : Asked) (columns : List (List Literal)) → columns_in a ≡ Some columns → asked_truth truths a ≡ columns_truth truths columns
+truth_of_columns truths (asked.Columns lists) columns same = ap (columns_truth truths) (same_list (map (λ c. c.items) lists.items) columns same)
+truth_of_columns truths (asked.Single x) columns same = absurd (true≢false (sym (ap is_some same)))
+truth_of_columns truths (asked.Masks guard) columns same = absurd (true≢false (sym (ap is_some same)))
+
+pub truths_same : (truths : List Bool) (a b : Asked) → HaveSameColumns a b → asked_truth truths a ≡ asked_truth truths b
+truths_same truths a b h = truth_of_columns truths a h.0 h.1 ∙ sym (truth_of_columns truths b h.0 h.2)
 
 -- One literal alone.
 

@@ -1,5 +1,5 @@
 -- How a guard is asked.
-use Rattle.std.specs.Prelude.{◌≡◌, ℕ, ◌<◌, Bool, true, false, not, List, [], ◌∷◌, map, flat_map, All, slice_index_or, if◌then◌else◌}
+use Rattle.std.specs.Prelude.{◌≡◌, ℕ, ◌<◌, Bool, true, false, not, List, [], ◌∷◌, map, flat_map, All, Option, Some, None, slice_index_or, if◌then◌else◌}
 use Rattle.std.specs.List.{list_any, list_all}
 use Rattle.rsml_syntax.specs.declared.syntax.Cell.{Cell}
 use Rattle.rsml_syntax.specs.declared.syntax.Cell.TheVariants as cells
@@ -48,6 +48,16 @@ abbrev pub asked_truth : List Bool → Asked → Bool
 asked_truth truths (asked.Single x) = literal_truth truths x
 asked_truth truths (asked.Columns columns) = columns_truth truths (map (λ c. c.items) columns.items)
 asked_truth truths (asked.Masks guard) = guard_truth truths guard
+
+-- its columns, where it is asked column by column
+abbrev pub columns_in : Asked → Option (List (List Literal))
+columns_in (asked.Single x) = None
+columns_in (asked.Columns columns) = Some (map (λ c. c.items) columns.items)
+columns_in (asked.Masks guard) = None
+
+-- both are asked column by column, and their columns are the same
+abbrev pub HaveSameColumns : Asked → Asked → Type 0
+HaveSameColumns a b = (columns : List (List Literal)) × (columns_in a ≡ Some columns) × (columns_in b ≡ Some columns)
 
 -- it asks phrases below the count alone
 abbrev pub AskedBelow : ℕ → Asked → Type 0

@@ -1,8 +1,8 @@
-ghost use Rattle.std.specs.Prelude.{◌≡◌, ◌<◌, ◌++◌, ◌∷◌, [], ℕ, All, Bool, IfOk, IfSome, List, OnOk, length, map, true};
+ghost use Rattle.std.specs.Prelude.{◌≡◌, ◌↔◌, ◌<◌, ◌++◌, ◌∷◌, [], ℕ, All, Bool, IfOk, IfSome, List, OnOk, length, map, true};
 ghost use Rattle.and_or_tables.specs.Shape.{IsTable, PhrasesBelow};
 ghost use Rattle.macros.specs.Guards.{GuardBelow, HasShape};
 ghost use Rattle.rsml_ground.specs.declared.definitions.GroundGuard.TheVariants as guards;
-ghost use Rattle.prepared_phrases.specs.Asked.{AskedBelow, AsksFor, ColumnBelow, asked_truth, columns_truth, wants};
+ghost use Rattle.prepared_phrases.specs.Asked.{AskedBelow, AsksFor, ColumnBelow, HaveSameColumns, asked_truth, columns_truth, wants};
 ghost use Rattle.prepared_phrases.specs.Asked as spec;
 
 use and_or_tables::{GroundRow, GroundTable};
@@ -139,7 +139,8 @@ impl Asked {
 
     /// Whether both are asked column by column, and their columns are the same.
     pub fn has_columns_of(&self, other: &Asked) -> bool
-        ensures { result ≡ true → (truths : List Bool) → asked_truth truths self.now ≡ asked_truth truths other.now }
+        ensures same { (result ≡ true) ↔ HaveSameColumns self.now other.now }
+        ensures alike { result ≡ true → (truths : List Bool) → asked_truth truths self.now ≡ asked_truth truths other.now }
     {
         match (self, other) {
             (Asked::Columns(columns), Asked::Columns(others)) => {

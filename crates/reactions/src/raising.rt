@@ -5,16 +5,15 @@ ghost use Rattle.micro_step.specs.Micros.{AreEvents, events_in};
 use elaborate::Machine;
 use micro_step::Events;
 
-/// The set of the event that a receive raises.
-pub fn raised(machine: &Machine<'_>, receive: u32) -> Events
+/// Puts the event that a receive raises in the place of those of a set.
+pub fn raise(machine: &Machine<'_>, receive: u32, present: &mut Events)
     requires { receive < length (receives machine.now.base.spec) }
-    ensures events { AreEvents machine.now.base.spec result }
+    ensures events { AreEvents machine.now.base.spec present.new }
     ensures one { (x : ReceiveInstance) → slice_get (receives machine.now.base.spec) receive ≡ Some x
-        → events_in machine.now.base.spec result ≡ x.raised ∷ [] }
+        → events_in machine.now.base.spec present.new ≡ x.raised ∷ [] }
 {
     let event = machine.interfaces().raised(receive);
     let _count = machine.events();
-    let mut events = Events::new();
-    events.put(event as usize);
-    events
+    present.clear();
+    present.put(event as usize);
 }

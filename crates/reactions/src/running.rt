@@ -12,7 +12,7 @@ ghost use Rattle.micro_step.specs.Rows.{bits_of, member_rows};
 ghost use Rattle.text_writer.specs.Writes.{Writes};
 ghost use Rattle.reactions.specs.Stepping.{IsExternal, RoundIsDone, WasRound};
 
-use crate::raising::raised;
+use crate::raising::raise;
 use crate::waiting::Waiting;
 use elaborate::Machine;
 use ground_groups::Member;
@@ -127,9 +127,8 @@ impl<'m, 'a> Running<'m, 'a> {
         ensures external { IsExternal self.old.machine.base.spec self.new.present }
     {
         let machine = self.machine;
-        let events = raised(machine, receive);
+        raise(machine, receive, &mut self.present);
         self.waiting.put(receive, numbers);
-        self.present = events;
     }
 
     /// Whether an event is present.

@@ -1,4 +1,4 @@
-ghost use Rattle.std.specs.Prelude.{◌≡◌, ◌≤◌, IfOk, IfSome, None, Some, length};
+ghost use Rattle.std.specs.Prelude.{◌≡◌, ◌≤◌, IfOk, IfSome, None, Some, length, vec_capacity};
 ghost use Rattle.rsml_meaning.specs.Worlds.{IsWorld};
 ghost use Rattle.reactions.specs.Stepping.{IsIncoming, latched_by};
 
@@ -30,6 +30,18 @@ impl Model for Waiting {
     ghost invariant = { λ w. w.room ≤ vec_capacity w.numbers };
 }
 
+/// Has a list hold these numbers alone, for which there is room. They are few, so each is put by itself.
+fn hold(held: &mut Vec<i64>, numbers: &[i64])
+    requires { length numbers.now ≤ vec_capacity held.old }
+    ensures numbers { held.new.items ≡ numbers.now }
+    ensures room { vec_capacity held.new ≡ vec_capacity held.old }
+{
+    held.clear();
+    for number in numbers {
+        held.push_reserved(*number);
+    }
+}
+
 impl Waiting {
     /// No message, and room for so many numbers.
     pub fn new(alloc: Global, room: usize) -> Result<Waiting, NoMemory>
@@ -49,8 +61,7 @@ impl Waiting {
           message = Some (record { receive = receive; numbers = numbers.now });
         } }
     {
-        self.numbers.clear();
-        self.numbers.extend_from_slice(numbers).unwrap();
+        hold(&mut self.numbers, numbers);
         self.receive = Some(receive);
     }
 

@@ -66,6 +66,7 @@ fn put_send_start<W: Writer>(writer: &mut W, texts: &Texts<'_>, send: u32)
 }
 
 /// Writes the part that names the instance of a number, piece by piece.
+#[inline(never)]
 pub fn put_part<W: Writer>(writer: &mut W, texts: &Texts<'_>, part: Part, number: u32)
     ensures { Writes (W.state writer.old) (W.text writer.old) (part_text part texts.now number)
         (W.state writer.new) (W.text writer.new) }

@@ -25,6 +25,7 @@ fn put_line<W: Writer>(writer: &mut W, tree: &Tree<'_>, transition: &SharedTrans
 }
 
 /// Writes the line of the transition of a number. Nothing where there is none.
+#[inline(never)]
 pub fn put_take<W: Writer>(writer: &mut W, machine: &Machine<'_>, transition: u32)
     ensures { Writes (W.state writer.old) (W.text writer.old) (take_line machine.now.base.spec transition)
         (W.state writer.new) (W.text writer.new) }

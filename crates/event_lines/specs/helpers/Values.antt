@@ -1,11 +1,11 @@
 -- What a value and the fields of a line come to, one after another.
-use Rattle.std.specs.Prelude.{ℕ, ◌+◌, List, [], ◌∷◌, ◌++◌, length, drop, Option, Some, None, Result, Ok, Err, if◌then◌else◌, ℤ, nat_eq, codes}
+use Rattle.std.specs.Prelude.{◌+◌, List, [], ◌∷◌, ◌++◌, length, drop, Option, Some, None, Result, Ok, Err, if◌then◌else◌, ℤ, nat_eq, codes}
 use Rattle.std.specs.List.{starts_with}
 use Rattle.rsml_syntax.specs.text.Names.{Name}
 use Rattle.rsml_meaning.specs.Cells.{InputType, is_of}
 use Rattle.rsml_meaning.specs.EventLines.{Bytes, value_number}
 use Rattle.event_lines.specs.declared.line_fault.LineFault.{LineFault}
-use Rattle.event_lines.specs.declared.line_fault.LineFault.TheVariants.{NotUtf8, UnknownInterface, BadIndex, WrongField, ExtraWord, NotAValue, OutOfRange}
+use Rattle.event_lines.specs.declared.line_fault.LineFault.TheVariants.{WrongField, ExtraWord, NotAValue, OutOfRange}
 
 -- the number that a text is of a type, or the rule that it breaks
 abbrev pub read_value : InputType → Bytes → Result ℤ LineFault

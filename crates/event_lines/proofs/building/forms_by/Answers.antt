@@ -1,5 +1,4 @@
 use Rattle.std.proofs.Common.{◌+◌, length, ap, ◌∙◌}
-use Rattle.rsml_syntax.specs.declared.syntax.Decl.{Decl}
 use Rattle.event_lines.specs.helpers.Declared.{types_of}
 use Rattle.event_lines.specs.helpers.Forms.{after}
 use Rattle.event_lines.proofs.FormLemmas.{forms_turn, within_turn}

@@ -1,4 +1,4 @@
-use Rattle.std.proofs.Common.{◌≤◌, ap, arith}
+use Rattle.std.proofs.Common.{ap, arith}
 use Rattle.event_lines.specs.helpers.Forms.{fields_in}
 use Rattle.event_lines.proofs.MostLemmas.{most_more}
 use Rattle.event_lines.proofs.line_forms.most_in.Goals as goal

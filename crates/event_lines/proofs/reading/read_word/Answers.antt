@@ -1,7 +1,6 @@
-use Rattle.std.proofs.Common.{◌+◌, ◌≡◌, ◌∷◌, List, Err, take, sym, subst}
-use Rattle.std.specs.Prelude.{MatchResult}
-use Rattle.rsml_meaning.specs.EventLines.{Bytes, words}
-use Rattle.event_lines.specs.helpers.Values.{TypedField, kept, field_numbers}
+use Rattle.std.proofs.Common.{◌+◌, take}
+use Rattle.rsml_meaning.specs.EventLines.{words}
+use Rattle.event_lines.specs.helpers.Values.{kept}
 use Rattle.event_lines.specs.helpers.Forms.{field_of}
 use Rattle.event_lines.proofs.FieldLemmas.{no_value, value_left}
 use Rattle.event_lines.proofs.reading.read_word.Goals as goal

@@ -12,8 +12,8 @@ use Rattle.reactions.proofs.SettledLemmas.{idle_settled, message_settled, is_inc
 use Rattle.reactions.proofs.WrittenLemmas.{in_world, not_empty}
 use Rattle.reactions.proofs.running.Running.latch.Goals as goal
 
-pub raised-events-requires : goal.raised-events-requires
-raised-events-requires c = subst (λ (v : InWorld). c.args.receive < length (receives v.machine.base.spec)) (sym c.self.view_is) c.requires.there
+pub raise-requires : goal.raise-requires
+raise-requires c = subst (λ (v : InWorld). c.args.receive < length (receives v.machine.base.spec)) (sym c.self.view_is) c.requires.there
 
 pub put-requires : goal.put-requires
 put-requires c =
@@ -30,7 +30,7 @@ invariant_of-self c =
     let typed =
     subst (λ (v : InWorld). IfSome (slice_get (receives v.machine.base.spec) k) (λ x. AreTyped v.machine.base.spec x.inputs c.args.numbers.now)) (sym c.self.view_is) c.requires.typed in
     let x = within_get (receives s) k there in
-    let present : events_in s c.raised-events.result ≡ x.0.raised ∷ [] = c.raised-events.ensures.one x.0 x.1 in
+    let present : events_in s c.raise.new.present ≡ x.0.raised ∷ [] = c.raise.ensures.one x.0 x.1 in
     record {
       traced = c.self.invariant.traced;
       made = c.self.invariant.made;
@@ -38,7 +38,7 @@ invariant_of-self c =
       taken_are = c.self.invariant.taken_are;
       left_is_world = c.self.invariant.left_is_world;
       knows = c.self.invariant.knows;
-      events_now = c.raised-events.ensures.events;
+      events_now = c.raise.ensures.events;
       events_before = c.self.invariant.events_before;
       message =
           subst (λ (h : Held). IfSome h.message (IsIncoming s)) (sym c.put.ensures) (is_incoming s k c.args.numbers.now there typed);
@@ -60,15 +60,15 @@ returns-clause-changes c =
     let last = last_of s w c.self.inside.before c.self.inside.scratch in
     let old = settled m w taken c.self.inside.waiting.message in
     let held = c.put.new.self.message in
-    let new : InWorld = record { machine = m; world = settled m w taken held; present = events_in s c.raised-events.result; last = last } in
+    let new : InWorld = record { machine = m; world = settled m w taken held; present = events_in s c.raise.new.present; last = last } in
     let there : k < length (receives s) = subst (λ (v : InWorld). k < length (receives v.machine.base.spec)) (sym c.self.view_is) c.requires.there in
     let x = within_get (receives s) k there in
     let idle : c.self.inside.waiting.message ≡ None = c.self.invariant.none (subst (λ (v : InWorld). v.present ≡ []) (sym c.self.view_is) c.requires.none) in
     let world : settled m w taken held ≡ latched s old (record { receive = x.0; numbers = ns }) =
     ap (λ (h : Held). settled m w taken h.message) c.put.ensures ∙ message_settled m w taken k ns x.0 x.1
     ∙ ap (λ (v : World). latched s v (record { receive = x.0; numbers = ns })) (sym (idle_settled m w taken c.self.inside.waiting.message idle)) in
-    let is = in_world m (settled m w taken held) (latched s old (record { receive = x.0; numbers = ns })) (events_in s c.raised-events.result) (x.0.raised ∷ []) last
-    world (c.raised-events.ensures.one x.0 x.1) in
+    let is = in_world m (settled m w taken held) (latched s old (record { receive = x.0; numbers = ns })) (events_in s c.raise.new.present) (x.0.raised ∷ []) last
+    world (c.raise.ensures.one x.0 x.1) in
     subst (λ (v : InWorld). IfSome (slice_get (receives v.machine.base.spec) k) (λ y. new ≡ record v {
       world = latched v.machine.base.spec v.world (record { receive = y; numbers = ns });
       present = y.raised ∷ [];
@@ -86,5 +86,5 @@ returns-clause-external c =
     let k = c.args.receive in
     let there : k < length (receives s) = subst (λ (v : InWorld). k < length (receives v.machine.base.spec)) (sym c.self.view_is) c.requires.there in
     let x = within_get (receives s) k there in
-    let is : IsExternal s (events_in s c.raised-events.result) = (x.0.raised, raised_external s k x.0 x.1, c.raised-events.ensures.one x.0 x.1) in
-    subst (λ (v : InWorld). IsExternal v.machine.base.spec (events_in s c.raised-events.result)) c.self.view_is is
+    let is : IsExternal s (events_in s c.raise.new.present) = (x.0.raised, raised_external s k x.0 x.1, c.raise.ensures.one x.0 x.1) in
+    subst (λ (v : InWorld). IsExternal v.machine.base.spec (events_in s c.raise.new.present)) c.self.view_is is

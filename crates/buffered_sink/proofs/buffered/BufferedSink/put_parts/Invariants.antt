@@ -1,7 +1,7 @@
 use Rattle.std.proofs.Common.{length, ◌+◌, ◌-◌, ◌≡◌, ◌≢◌, ◌<◌, ◌≤◌, [], take, true}
 use Rattle.rsml_io.specs.Writing.{appended}
 use Rattle.buffered_sink.specs.Parts.{waiting, text_of, state_of}
-use Rattle.buffered_sink.proofs.buffered.BufferedSinkWriter.put.Given as goal
+use Rattle.buffered_sink.proofs.buffered.BufferedSink.put_parts.Given as goal
 
 abbrev pub invariant-loop-at : goal.invariant-loop-at
 invariant-loop-at g l = record {

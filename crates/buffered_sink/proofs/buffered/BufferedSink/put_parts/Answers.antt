@@ -2,7 +2,7 @@ use Rattle.std.proofs.Common.{◌≤◌, length, drop, ◌∙◌, arith, rules, 
 use Rattle.std.proofs.lemmas.List.{take_rest}
 use Rattle.buffered_sink.specs.Parts.{text_of}
 use Rattle.buffered_sink.proofs.Waiting.{filled}
-use Rattle.buffered_sink.proofs.buffered.BufferedSinkWriter.put.Goals as goal
+use Rattle.buffered_sink.proofs.buffered.BufferedSink.put_parts.Goals as goal
 
 pub loop-at-preserved : goal.loop-at-preserved
 loop-at-preserved g c =
