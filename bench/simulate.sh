@@ -5,14 +5,14 @@
 #     bench/simulate.sh [EVENTS [TURNS]]
 # A line for each: milliseconds of ours, which contain the check of the specification; of the general one, and the ratio of ours to it; of
 # the one for this specification, and the ratio to it; how many rounds ours makes in a second; and the aim of the first ratio. Times are
-# the least of TURNS (3) runs by turns. All traces are compared first, and that of the general one for an example with components in
+# the least of TURNS (9) runs by turns. All traces are compared first, and that of the general one for an example with components in
 # others. Then the greatest resident memory of ours for files of 10,000 and of ten times EVENTS events. It ends with status 1 where two
 # traces are different.
 # PROGRAM=FILE takes a program that is built already.
 set -eu
 cd "$(dirname "$0")/.."
 events=${1:-1000000}
-turns=${2:-3}
+turns=${2:-9}
 work=$(mktemp -d)
 trap 'rm -rf "$work"' EXIT
 source bench/texts.sh
