@@ -1,15 +1,119 @@
-ghost use Rattle.std.specs.Prelude.{◌≡◌, IfOk, OnOk};
+//! All that is told of a specification. Each value that lives while it is told is made by a function of its own.
+ghost use Rattle.std.specs.Prelude.{◌≡◌, IfOk};
 ghost use Rattle.rsml_ground.specs.Grounded.{IsShort};
 ghost use Rattle.source_notes.specs.Comments.{AreComments};
 
+use crate::chains::chains_of;
 use elaborate::{Machine, elaborate};
-use enabled_notes::enabled_notes;
-use finding_notes::finding_notes;
+use enabled_notes::tell_enabled;
+use event_chains::Chains;
+use finding_notes::tell_findings;
 use finding_texts::Verdict;
-use rsml_syntax::{Checked, NoMemory, Spec};
-use source_notes::put_comments;
-use specification_notes::unused_notes;
+use guard_encode::Encoder;
+use instance_texts::Texts;
+use rsml_names::Globals;
+use rsml_syntax::{Checked, NoMemory};
+use source_notes::Notes;
+use specification_notes::tell_unused;
 use std::alloc::Global;
+use written_members::{Scene, Source, tell_clashes, tell_loops};
+
+/// A specification that was read from a file of this name, and what was found of its groups.
+#[derive(Clone, Copy)]
+struct Subject<'s> {
+    file: &'s [u8],
+    checked: &'s Checked,
+    verdicts: &'s [Verdict],
+}
+
+/// Tells all, in order.
+fn tell_all(
+    notes: &mut Notes<'_>,
+    subject: Subject<'_>,
+    scene: &Scene<'_, '_>,
+    chains: &Chains<'_>,
+    encoder: &mut Encoder<'_, '_>,
+) -> Result<(), NoMemory> {
+    tell_loops(notes, scene, chains.loops())?;
+    tell_clashes(notes, scene, chains.clashes())?;
+    tell_findings(notes, scene, encoder, subject.verdicts)?;
+    tell_unused(notes, subject.checked.spec(), scene.globals)?;
+    tell_enabled(notes, scene.machine, scene.globals, encoder)
+}
+
+/// Makes the diagrams of the machine.
+fn tell_scene(
+    notes: &mut Notes<'_>,
+    subject: Subject<'_>,
+    scene: &Scene<'_, '_>,
+    chains: &Chains<'_>,
+) -> Result<(), NoMemory> {
+    let mut encoder = Encoder::new(notes.alloc(), scene.machine)?;
+    tell_all(notes, subject, scene, chains, &mut encoder)
+}
+
+/// Makes the text without comments.
+fn tell_named(
+    notes: &mut Notes<'_>,
+    subject: Subject<'_>,
+    machine: &Machine<'_>,
+    chains: &Chains<'_>,
+    globals: &Globals<'_>,
+    texts: &Texts<'_>,
+) -> Result<(), NoMemory> {
+    let source = Source::new(subject.file, notes.text());
+    let scene = Scene {
+        machine,
+        texts,
+        globals,
+        decls: subject.checked.spec().decls.as_slice(),
+        source: &source,
+    };
+    tell_scene(notes, subject, &scene, chains)
+}
+
+/// Makes the names of the instances.
+fn tell_known(
+    notes: &mut Notes<'_>,
+    subject: Subject<'_>,
+    machine: &Machine<'_>,
+    chains: &Chains<'_>,
+    globals: &Globals<'_>,
+) -> Result<(), NoMemory> {
+    let texts = Texts::build(notes.alloc(), subject.checked)?;
+    tell_named(notes, subject, machine, chains, globals, &texts)
+}
+
+/// Makes the table of the global names.
+fn tell_chained(
+    notes: &mut Notes<'_>,
+    subject: Subject<'_>,
+    machine: &Machine<'_>,
+    chains: &Chains<'_>,
+) -> Result<(), NoMemory> {
+    let globals = Globals::new(notes.alloc(), subject.checked.spec().decls.as_slice())?;
+    tell_known(notes, subject, machine, chains, &globals)
+}
+
+/// Makes the chains of events.
+fn tell_machine(
+    notes: &mut Notes<'_>,
+    subject: Subject<'_>,
+    machine: &Machine<'_>,
+) -> Result<(), NoMemory>
+    requires { machine.now.base.spec ≡ subject.checked.now }
+{
+    let chains = chains_of(notes.alloc(), subject.checked, machine)?;
+    tell_chained(notes, subject, machine, &chains)
+}
+
+/// Makes the machine.
+fn tell_subject(notes: &mut Notes<'_>, subject: Subject<'_>) -> Result<(), NoMemory>
+    requires { IsShort subject.checked.now }
+{
+    let machine = elaborate(notes.alloc(), subject.checked)?;
+    tell_machine(notes, subject, &machine)
+}
 
 /// Comment lines on a specification of at most 2,097,152 tokens that was read from this text, in a file of this name: on the events
 /// that loop, on those that clash, and on each group that is not sound, by what was found of the groups; and then notes on what is not
@@ -24,54 +128,12 @@ pub fn checked_notes(
     requires { IsShort checked.now }
     ensures { IfOk result (λ v. AreComments v.items) }
 {
-    let machine = elaborate(alloc, checked)?;
-    with_machine(alloc, file, text, checked, &machine, verdicts)
-}
-
-/// The same, over the machine.
-fn with_machine(
-    alloc: Global,
-    file: &[u8],
-    text: &[u8],
-    checked: &Checked,
-    machine: &Machine<'_>,
-    verdicts: &[Verdict],
-) -> Result<Vec<u8>, NoMemory>
-    requires { machine.now.base.spec ≡ checked.now }
-    ensures { IfOk result (λ v. AreComments v.items) }
-{
-    let mut notes = finding_notes(alloc, file, text, checked, machine, verdicts)?;
-    put_unused(&mut notes, alloc, file, text, checked.spec())?;
-    put_enabled(&mut notes, alloc, file, text, machine)?;
-    Ok(notes)
-}
-
-/// Puts notes on what is not used behind others.
-fn put_unused(
-    notes: &mut Vec<u8>,
-    alloc: Global,
-    file: &[u8],
-    text: &[u8],
-    spec: &Spec,
-) -> Result<(), NoMemory>
-    requires { AreComments notes.old.items }
-    ensures { OnOk result (AreComments notes.new.items) }
-{
-    let unused = unused_notes(alloc, file, text, spec)?;
-    put_comments(notes, unused.as_slice())
-}
-
-/// Puts notes on what is never enabled behind others.
-fn put_enabled(
-    notes: &mut Vec<u8>,
-    alloc: Global,
-    file: &[u8],
-    text: &[u8],
-    machine: &Machine<'_>,
-) -> Result<(), NoMemory>
-    requires { AreComments notes.old.items }
-    ensures { OnOk result (AreComments notes.new.items) }
-{
-    let enabled = enabled_notes(alloc, file, text, machine)?;
-    put_comments(notes, enabled.as_slice())
+    let mut notes = Notes::new(alloc, file, text);
+    let subject = Subject {
+        file,
+        checked,
+        verdicts,
+    };
+    tell_subject(&mut notes, subject)?;
+    notes.bytes()
 }

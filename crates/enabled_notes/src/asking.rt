@@ -4,7 +4,7 @@ ghost use Rattle.bdd_core.specs.Diagram.{IsRef};
 ghost use Rattle.guard_encode.specs.Encoding.{Keeps};
 
 use crate::columns::column_guard;
-use crate::guards::Asked;
+use crate::instances::Asked;
 use bdd_core::Ref;
 use guard_encode::Encoder;
 use rsml_base::NoMemory;

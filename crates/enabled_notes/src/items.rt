@@ -1,74 +1,59 @@
-//! What of a text has guards, in the order of the text.
+//! Guards as they are written.
 
-use crate::guards::{Site, site_of};
-use rsml_base::{NoMemory, Text};
-use rsml_syntax::{Decl, SendCase, Spec, Transition};
-use source_survey::Survey;
-use std::alloc::Global;
+use rsml_base::Text;
+use rsml_syntax::{Decl, Transition};
 
-/// Something with a guard.
+/// A guard as it is written; a case by its place among the others, a transition by its place in its component.
 #[derive(Clone, Copy)]
 pub enum Item<'a> {
-    Macro(&'a Text),
+    Macro { name: &'a Text },
     FunctionCase { function: &'a Text, place: usize },
-    SendCase { send: &'a Text, case: &'a SendCase },
-    Transition(&'a Transition),
+    SendCase { send: &'a Text, trigger: &'a Text },
+    Transition { source: &'a Text, place: usize },
 }
 
 impl<'a> Item<'a> {
     /// The name at which it is told.
-    pub fn name(&self) -> &'a Text {
+    pub fn name(self) -> &'a Text {
         match self {
-            Item::Macro(name) => name,
+            Item::Macro { name } => name,
             Item::FunctionCase { function, .. } => function,
-            Item::SendCase { case, .. } => &case.trigger.name,
-            Item::Transition(transition) => &transition.source,
-        }
-    }
-
-    /// Where it stands.
-    pub fn site(&self) -> Site {
-        match self {
-            Item::FunctionCase { function, place } => Site {
-                at: function.at(),
-                place: *place,
-            },
-            _ => site_of(self.name()),
+            Item::SendCase { trigger, .. } => trigger,
+            Item::Transition { source, .. } => source,
         }
     }
 }
 
-/// Puts the guards of a declaration.
-fn put_decl<'a>(items: &mut Vec<Item<'a>>, decl: &'a Decl) -> Result<(), NoMemory> {
+/// How many guards a declaration has.
+pub fn guard_count(decl: &Decl) -> usize {
     match decl {
-        Decl::Macro { name, .. } => items.push(Item::Macro(name))?,
-        Decl::Function { name, cases, .. } => {
-            for place in 0..cases.len() {
-                items.push(Item::FunctionCase {
-                    function: name,
-                    place,
-                })?;
-            }
-        }
-        Decl::Send { name, cases, .. } => {
-            for case in cases.as_slice() {
-                items.push(Item::SendCase { send: name, case })?;
-            }
-        }
-        _ => {}
+        Decl::Macro { .. } => 1,
+        Decl::Function { cases, .. } => cases.len(),
+        Decl::Send { cases, .. } => cases.len(),
+        _ => 0,
     }
-    Ok(())
 }
 
-/// What of a specification has guards.
-pub fn items_of<'a>(alloc: Global, spec: &'a Spec) -> Result<Vec<Item<'a>>, NoMemory> {
-    let survey = Survey::new(alloc, spec)?;
-    let mut items = Vec::new(alloc);
-    for decl in spec.decls.as_slice() {
-        put_decl(&mut items, decl)?;
+/// The guard at a place of a declaration.
+pub fn item_in(decl: &Decl, place: usize) -> Option<Item<'_>> {
+    match decl {
+        Decl::Macro { name, .. } => Some(Item::Macro { name }),
+        Decl::Function { name, .. } => Some(Item::FunctionCase {
+            function: name,
+            place,
+        }),
+        Decl::Send { name, cases, .. } => Some(Item::SendCase {
+            send: name,
+            trigger: &cases.get(place)?.trigger.name,
+        }),
+        _ => None,
     }
-    for at in survey.transitions.as_slice() {
-        items.push(Item::Transition(at.transition))?;
+}
+
+/// The guard of the transition at a place of its component.
+pub fn item_of(transition: &Transition, place: usize) -> Item<'_> {
+    Item::Transition {
+        source: &transition.source,
+        place,
     }
-    Ok(items)
 }

@@ -4,9 +4,9 @@
 mod asking;
 mod columns;
 mod enabled;
-mod guards;
+mod instances;
 mod items;
 mod telling;
 mod verdicts;
 
-pub use enabled::enabled_notes;
+pub use enabled::tell_enabled;

@@ -2,8 +2,7 @@
 
 use crate::items::Item;
 use crate::verdicts::Verdict;
-use rsml_base::{NoMemory, Text};
-use source_notes::{Notes, Piece, back, characters_in};
+use source_notes::{Notes, Piece, Spot, back, spot_of};
 
 /// What is read of a text in which a table begins.
 #[derive(Clone, Copy)]
@@ -51,120 +50,115 @@ fn cell_place(text: &[u8], from: usize, column: usize) -> usize {
     from
 }
 
-/// Puts what stands before what is said of a column.
-fn put_column<'a>(
-    pieces: &mut Vec<Piece<'a>>,
-    item: &Item<'a>,
-    column: usize,
-) -> Result<(), NoMemory> {
-    pieces.push(Piece::Words("note: column "))?;
-    pieces.push(Piece::Count(column.saturating_add(1)))?;
-    match item {
-        Item::FunctionCase { function, place } => {
-            pieces.push(Piece::Words(" of case "))?;
-            pieces.push(Piece::Count(place.saturating_add(1)))?;
-            pieces.push(Piece::Words(" of the function "))?;
-            pieces.push(Piece::Name(function))?;
-        }
-        _ => pieces.push(Piece::Words(" of this table"))?,
-    }
-    Ok(())
-}
-
-/// What is said of a column that is true in no world.
-fn never_words(item: &Item<'_>) -> &'static str {
-    match item {
-        Item::Transition(_) => " holds in no world in which the source is active",
-        _ => " holds in no world",
-    }
-}
-
-/// A note at a column.
-fn point_at_column(
-    notes: &mut Notes<'_>,
-    item: &Item<'_>,
-    column: usize,
-    pieces: &[Piece<'_>],
-) -> Result<(), NoMemory> {
+/// Where a column is told: at its cell in the first row; for a function at the name.
+fn column_spot(text: &[u8], item: Item<'_>, column: usize) -> Spot {
     let name = item.name();
     match item {
-        Item::FunctionCase { .. } => point_at(notes, name, pieces),
-        _ => {
-            let at = cell_place(notes.text(), name.at() as usize, column);
-            notes.point(at, 1, pieces)
-        }
+        Item::FunctionCase { .. } => spot_of(name),
+        _ => Spot {
+            at: cell_place(text, name.at() as usize, column),
+            width: 1,
+        },
     }
 }
 
-/// A note at a name.
-fn point_at(notes: &mut Notes<'_>, name: &Text, pieces: &[Piece<'_>]) -> Result<(), NoMemory> {
-    notes.point(name.at() as usize, characters_in(name.bytes()), pieces)
+/// What is said of a column of a function's case.
+fn case_column_form(verdict: Verdict) -> &'static str {
+    match verdict {
+        Verdict::Within(_) => {
+            "column {} of case {} of the function {} holds only where column {} does"
+        }
+        _ => "column {} of case {} of the function {} holds in no world",
+    }
+}
+
+/// What is said of a column of another table.
+fn column_form(item: Item<'_>, verdict: Verdict) -> &'static str {
+    match verdict {
+        Verdict::Within(_) => "column {} of this table holds only where column {} does",
+        _ => match item {
+            Item::Transition { .. } => {
+                "column {} of this table holds in no world in which the source is active"
+            }
+            _ => "column {} of this table holds in no world",
+        },
+    }
+}
+
+/// The number of something at a place, counted from 1.
+fn number_of(place: usize) -> Piece<'static> {
+    Piece::Count(place.saturating_add(1))
+}
+
+/// The number of the column where alone another is true.
+fn other_column(verdict: Verdict) -> Piece<'static> {
+    match verdict {
+        Verdict::Within(other) => number_of(other),
+        _ => Piece::Nothing,
+    }
 }
 
 /// Tells what is found of a column.
-fn tell_column(
-    notes: &mut Notes<'_>,
-    item: &Item<'_>,
-    column: usize,
-    verdict: Verdict,
-) -> Result<(), NoMemory> {
-    let mut pieces = Vec::new(notes.alloc());
-    put_column(&mut pieces, item, column)?;
-    match verdict {
-        Verdict::Useful => return Ok(()),
-        Verdict::Never => pieces.push(Piece::Words(never_words(item)))?,
-        Verdict::Within(other) => {
-            pieces.push(Piece::Words(" holds only where column "))?;
-            pieces.push(Piece::Count(other.saturating_add(1)))?;
-            pieces.push(Piece::Words(" does"))?;
-        }
+fn tell_column(notes: &mut Notes<'_>, item: Item<'_>, column: usize, verdict: Verdict) {
+    let spot = column_spot(notes.text(), item, column);
+    let other = other_column(verdict);
+    match item {
+        Item::FunctionCase { function, place } => notes.note(
+            spot,
+            case_column_form(verdict),
+            number_of(column),
+            number_of(place),
+            Piece::Name(function),
+            other,
+        ),
+        _ => notes.note(
+            spot,
+            column_form(item, verdict),
+            number_of(column),
+            other,
+            Piece::Nothing,
+            Piece::Nothing,
+        ),
     }
-    point_at_column(notes, item, column, pieces.as_slice())
+}
+
+/// What is said of a guard that is true in no world, and what fills the gaps.
+fn never_words(item: Item<'_>) -> (&'static str, Piece<'_>, Piece<'_>) {
+    match item {
+        Item::Macro { name } => (
+            "the macro {} holds in no world",
+            Piece::Name(name),
+            Piece::Nothing,
+        ),
+        Item::FunctionCase { function, place } => (
+            "case {} of the function {} is never enabled",
+            number_of(place),
+            Piece::Name(function),
+        ),
+        Item::SendCase { send, .. } => (
+            "this case of the send {} is never enabled",
+            Piece::Name(send),
+            Piece::Nothing,
+        ),
+        Item::Transition { source, .. } => (
+            "this transition from {} is never enabled",
+            Piece::Name(source),
+            Piece::Nothing,
+        ),
+    }
 }
 
 /// Tells that a guard is true in no world.
-fn tell_never(notes: &mut Notes<'_>, item: &Item<'_>) -> Result<(), NoMemory> {
-    let name = item.name();
-    match item {
-        Item::Macro(_) => point_at(
-            notes,
-            name,
-            &[
-                Piece::Words("note: the macro "),
-                Piece::Name(name),
-                Piece::Words(" holds in no world"),
-            ],
-        ),
-        Item::FunctionCase { place, .. } => point_at(
-            notes,
-            name,
-            &[
-                Piece::Words("note: case "),
-                Piece::Count(place.saturating_add(1)),
-                Piece::Words(" of the function "),
-                Piece::Name(name),
-                Piece::Words(" is never enabled"),
-            ],
-        ),
-        Item::SendCase { send, .. } => point_at(
-            notes,
-            name,
-            &[
-                Piece::Words("note: this case of the send "),
-                Piece::Name(send),
-                Piece::Words(" is never enabled"),
-            ],
-        ),
-        Item::Transition(_) => point_at(
-            notes,
-            name,
-            &[
-                Piece::Words("note: this transition from "),
-                Piece::Name(name),
-                Piece::Words(" is never enabled"),
-            ],
-        ),
-    }
+fn tell_never(notes: &mut Notes<'_>, item: Item<'_>) {
+    let (form, one, two) = never_words(item);
+    notes.note(
+        spot_of(item.name()),
+        form,
+        one,
+        two,
+        Piece::Nothing,
+        Piece::Nothing,
+    );
 }
 
 /// Whether all columns of a table are true in no world.
@@ -178,16 +172,14 @@ fn are_never(verdicts: &[Verdict]) -> bool {
 }
 
 /// Tells what is found of a guard.
-pub fn tell_item(
-    notes: &mut Notes<'_>,
-    item: &Item<'_>,
-    verdicts: &[Verdict],
-) -> Result<(), NoMemory> {
+pub fn tell_item(notes: &mut Notes<'_>, item: Item<'_>, verdicts: &[Verdict]) {
     if are_never(verdicts) {
-        return tell_never(notes, item);
+        tell_never(notes, item);
+        return;
     }
     for (column, verdict) in verdicts.iter().enumerate() {
-        tell_column(notes, item, column, *verdict)?;
+        if *verdict != Verdict::Useful {
+            tell_column(notes, item, column, *verdict);
+        }
     }
-    Ok(())
 }

@@ -2,7 +2,7 @@
 
 use crate::asking::{is_within, never_holds};
 use crate::columns::{are_apart, width_of};
-use crate::guards::Asked;
+use crate::instances::Asked;
 use guard_encode::Encoder;
 use rsml_base::NoMemory;
 use std::alloc::Global;
@@ -82,25 +82,6 @@ fn of_column(
     Ok(Verdict::Useful)
 }
 
-/// Which columns are true in no world.
-fn first_verdicts(
-    alloc: Global,
-    encoder: &mut Encoder<'_, '_>,
-    instances: &[Asked<'_>],
-    width: usize,
-) -> Result<Vec<Verdict>, NoMemory> {
-    let mut verdicts = Vec::new(alloc);
-    for place in 0..width {
-        let never = is_never(alloc, encoder, instances, place)?;
-        verdicts.push(if never {
-            Verdict::Never
-        } else {
-            Verdict::Useful
-        })?;
-    }
-    Ok(verdicts)
-}
-
 /// Sets what is found at a place.
 fn set(verdicts: &mut Vec<Verdict>, place: usize, verdict: Verdict) {
     if place < verdicts.len() {
@@ -108,22 +89,52 @@ fn set(verdicts: &mut Vec<Verdict>, place: usize, verdict: Verdict) {
     }
 }
 
-/// What is found of each column of a table. A guard that is always true is a table of one column.
-pub fn verdicts_of(
+/// Finds which columns are true in no world.
+fn find_never(
     alloc: Global,
     encoder: &mut Encoder<'_, '_>,
     instances: &[Asked<'_>],
-) -> Result<Vec<Verdict>, NoMemory> {
-    let width = match instances.first() {
-        Some(asked) => width_of(asked.rows),
-        None => 0,
-    };
-    let mut verdicts = first_verdicts(alloc, encoder, instances, width)?;
-    for place in 0..width {
-        if let Some(Verdict::Useful) = verdicts.get(place) {
-            let found = of_column(alloc, encoder, instances, verdicts.as_slice(), place)?;
-            set(&mut verdicts, place, found);
+    verdicts: &mut Vec<Verdict>,
+) -> Result<(), NoMemory> {
+    for place in 0..verdicts.len() {
+        if is_never(alloc, encoder, instances, place)? {
+            set(verdicts, place, Verdict::Never);
         }
     }
-    Ok(verdicts)
+    Ok(())
+}
+
+/// Finds which of the other columns are true only where another is.
+fn find_within(
+    alloc: Global,
+    encoder: &mut Encoder<'_, '_>,
+    instances: &[Asked<'_>],
+    verdicts: &mut Vec<Verdict>,
+) -> Result<(), NoMemory> {
+    for place in 0..verdicts.len() {
+        if verdicts.get(place) == Some(&Verdict::Useful) {
+            let found = of_column(alloc, encoder, instances, verdicts.as_slice(), place)?;
+            set(verdicts, place, found);
+        }
+    }
+    Ok(())
+}
+
+/// How many columns the tables of instances have. A guard that is always true is a table of one column.
+pub fn width_of_first(instances: &[Asked<'_>]) -> usize {
+    match instances.first() {
+        Some(asked) => width_of(asked.rows),
+        None => 0,
+    }
+}
+
+/// Finds what is to be told of each column of a table with these instances, of which none is told so far.
+pub fn find_verdicts(
+    alloc: Global,
+    encoder: &mut Encoder<'_, '_>,
+    instances: &[Asked<'_>],
+    verdicts: &mut Vec<Verdict>,
+) -> Result<(), NoMemory> {
+    find_never(alloc, encoder, instances, verdicts)?;
+    find_within(alloc, encoder, instances, verdicts)
 }

@@ -1,39 +1,53 @@
 //! Which braces are open.
 
+use crate::hints::stands_outside;
+use crate::site::Fault;
 use crate::token_kind::TokenKind;
-use rsml_base::NoMemory;
 use rsml_syntax::{Mark, Placed};
 use source_notes::{Notes, Piece};
-use std::alloc::Global;
 
 /// How many of them are told.
 const MOST: usize = 5;
 
-/// The offsets of the braces that tokens leave open.
-pub fn open_braces(alloc: Global, tokens: &[Placed]) -> Result<Vec<u32>, NoMemory> {
-    let mut open = Vec::new(alloc);
-    for placed in tokens {
+/// The offset of the brace that tokens leave open, and in which so many others are open.
+fn open_brace(tokens: &[Placed], others: usize) -> Option<u32> {
+    // How many opening braces are left that are closed, or one of the others.
+    let mut inside = others;
+    for placed in tokens.iter().rev() {
         match TokenKind::of(&placed.token) {
-            TokenKind::Mark(Mark::OpenBrace) => open.push(placed.at)?,
-            TokenKind::Mark(Mark::CloseBrace) => {
-                open.pop();
-            }
+            TokenKind::Mark(Mark::CloseBrace) => inside = inside.saturating_add(1),
+            TokenKind::Mark(Mark::OpenBrace) if inside == 0 => return Some(placed.at),
+            TokenKind::Mark(Mark::OpenBrace) => inside = inside.saturating_sub(1),
             _ => {}
         }
     }
-    Ok(open)
+    None
 }
 
-/// Tells the braces that are open, the innermost first.
-pub fn tell_open(notes: &mut Notes<'_>, open: &[u32]) -> Result<(), NoMemory> {
-    for at in open.iter().rev().take(MOST) {
-        notes.say(&[
-            Piece::Words("the "),
-            Piece::Code(b"{"),
-            Piece::Words(" at "),
-            Piece::Place(*at),
-            Piece::Words(" is open"),
-        ])?;
+/// Tells the braces that tokens leave open, at most so many, the innermost first.
+fn tell_open(notes: &mut Notes<'_>, tokens: &[Placed], most: usize) {
+    for others in 0..most {
+        match open_brace(tokens, others) {
+            Some(at) => notes.say_one("the `{` at {} is open", Piece::Place(at)),
+            None => return,
+        }
     }
-    Ok(())
+}
+
+/// Tells the braces, where one of them is missing.
+pub fn tell_braces(notes: &mut Notes<'_>, fault: &Fault<'_>) {
+    let before = fault.site.tokens_before();
+    match fault.site.kind(0) {
+        None => tell_open(notes, before, MOST),
+        Some(TokenKind::Mark(Mark::CloseBrace)) => {
+            if open_brace(before, 0).is_none() {
+                notes.say("no `{` is open here");
+            }
+        }
+        Some(_) => {
+            if stands_outside(fault) {
+                tell_open(notes, before, 1);
+            }
+        }
+    }
 }

@@ -1,88 +1,119 @@
 ghost use Rattle.std.specs.Prelude.{◌≡◌, IfOk};
 ghost use Rattle.source_notes.specs.Comments.{AreComments};
 
-use crate::expectations::phrases;
+use crate::expectations::expectation_of;
 use crate::habits::tell_habits;
-use crate::spot::{Spot, frame_of};
+use crate::site::{Fault, Site, frame_of};
 use crate::token_kind::TokenKind;
 use crate::trials::expected;
 use rsml_base::NoMemory;
 use rsml_parser::ParseError;
-use rsml_syntax::{Placed, Token};
-use source_notes::{Notes, Piece, characters_in, listed, token_text};
+use rsml_syntax::Placed;
+use source_notes::{Notes, Piece, Spot, characters_in, token_text};
 use std::alloc::Global;
+use std::str;
 
-/// What sort of token stands at a place.
-fn sort_of(spot: &Spot<'_>) -> &'static str {
-    match spot.token() {
-        Some(placed) => match &placed.token {
-            Token::Word(_) => "the reserved word ",
-            Token::Name(_) => "the name ",
-            Token::Number(_) => "the number ",
-            Token::Mark(_) => "",
-        },
-        None => "",
-    }
-}
-
-/// What is wrong at a place where these kinds of tokens can stand.
-fn said<'a>(
-    alloc: Global,
-    spot: &Spot<'a>,
-    kinds: &[TokenKind],
-) -> Result<Vec<Piece<'a>>, NoMemory> {
-    let mut pieces = Vec::new(alloc);
-    if spot.token().is_some() {
-        pieces.push(Piece::Words(sort_of(spot)))?;
-        pieces.push(Piece::Code(token_text(spot.text, spot.at())))?;
-        pieces.push(Piece::Words(" cannot stand here; "))?;
-    } else {
-        pieces.push(Piece::Words("the text ends too soon; "))?;
-    }
-    if kinds.is_empty() {
-        pieces.push(Piece::Words("the specification ends before it"))?;
-        return Ok(pieces);
-    }
-    pieces.push(Piece::Words("expected "))?;
-    let phrases = phrases(alloc, kinds)?;
-    let list = listed(alloc, phrases.as_slice(), " or ")?;
-    pieces.extend_from_slice(list.as_slice())?;
-    Ok(pieces)
-}
-
-/// A token that cannot stand where it does.
-fn wrong_token(notes: &mut Notes<'_>, spot: &Spot<'_>) -> Result<(), NoMemory> {
-    let frame = frame_of(notes.alloc(), spot)?;
-    let kinds = expected(notes.alloc(), frame.front.as_slice(), frame.token)?;
-    let pieces = said(notes.alloc(), spot, kinds.as_slice())?;
-    let at = spot.at();
-    let width = match spot.token() {
-        Some(_) => characters_in(token_text(spot.text, at)),
-        None => 1,
-    };
-    notes.point(at, width, pieces.as_slice())?;
-    tell_habits(notes, spot, &frame, kinds.as_slice())
-}
-
-/// A state inside 16 others.
-fn too_deep(notes: &mut Notes<'_>, spot: &Spot<'_>) -> Result<(), NoMemory> {
-    let at = spot.at();
-    let width = token_text(spot.text, at).len();
-    notes.point(
+/// Where the token stands that begins at an offset.
+pub fn spot_at(text: &[u8], at: usize) -> Spot {
+    Spot {
         at,
-        width,
-        &[Piece::Words(
-            "the state lies inside 16 others; 16 levels are the most, with the top state",
-        )],
-    )
+        width: characters_in(token_text(text, at)),
+    }
+}
+
+/// What sort of token one of a kind is.
+fn sort_of(kind: TokenKind) -> &'static str {
+    match kind {
+        TokenKind::Word(_) => "the reserved word ",
+        TokenKind::Name => "the name ",
+        TokenKind::Number => "the number ",
+        TokenKind::Mark(_) => "",
+    }
+}
+
+/// Tells that a token cannot stand where it does, or that none does, and what was expected.
+fn tell_unexpected(notes: &mut Notes<'_>, site: &Site<'_>, expectation: &str) {
+    let spot = spot_at(site.text, site.at());
+    let expectation = Piece::Words(expectation);
+    match site.kind(0) {
+        Some(kind) => notes.fault_four(
+            spot,
+            "{}{} cannot stand here; {}",
+            Piece::Words(sort_of(kind)),
+            Piece::Code(token_text(site.text, spot.at)),
+            expectation,
+            Piece::Nothing,
+        ),
+        None => notes.fault(
+            spot,
+            "the text ends too soon; {}",
+            expectation,
+            Piece::Nothing,
+        ),
+    }
+}
+
+/// Tells what was expected at a place.
+fn tell_expected(notes: &mut Notes<'_>, fault: &Fault<'_>) -> Result<(), NoMemory> {
+    let expectation = expectation_of(fault.alloc, fault.kinds)?;
+    let words = str::from_utf8(expectation.as_slice()).unwrap_or("");
+    tell_unexpected(notes, &fault.site, words);
+    Ok(())
+}
+
+/// Tells a syntax fault.
+fn tell_fault(notes: &mut Notes<'_>, fault: &Fault<'_>) -> Result<(), NoMemory> {
+    tell_expected(notes, fault)?;
+    tell_habits(notes, fault)
+}
+
+/// Tells that a token cannot stand where it does.
+fn wrong_token(notes: &mut Notes<'_>, site: Site<'_>) -> Result<(), NoMemory> {
+    let alloc = notes.alloc();
+    let frame = frame_of(&site);
+    let kinds = expected(alloc, &frame)?;
+    let fault = Fault {
+        alloc,
+        site,
+        frame,
+        kinds: kinds.as_slice(),
+    };
+    tell_fault(notes, &fault)
+}
+
+/// Tells a state inside 16 others.
+fn too_deep(notes: &mut Notes<'_>, site: &Site<'_>) {
+    notes.fault(
+        spot_at(site.text, site.at()),
+        "the state lies inside 16 others; 16 levels are the most, with the top state",
+        Piece::Nothing,
+        Piece::Nothing,
+    );
 }
 
 /// The place of a token that is counted from 1.
-fn spot_of<'t>(text: &'t [u8], tokens: &'t [Placed], token: u32) -> Spot<'t> {
-    Spot {
+fn site_of<'t>(text: &'t [u8], tokens: &'t [Placed], token: u32) -> Site<'t> {
+    Site {
         text,
         tokens,
         place: (token as usize).saturating_sub(1),
+    }
+}
+
+/// Tells where tokens stop being a specification.
+fn tell_syntax(
+    notes: &mut Notes<'_>,
+    tokens: &[Placed],
+    error: &ParseError,
+) -> Result<(), NoMemory> {
+    let text = notes.text();
+    match error {
+        ParseError::Syntax { token } => wrong_token(notes, site_of(text, tokens, *token)),
+        ParseError::TooDeep { token } => {
+            too_deep(notes, &site_of(text, tokens, *token));
+            Ok(())
+        }
+        ParseError::NoMemory => Err(NoMemory),
     }
 }
 
@@ -97,12 +128,6 @@ pub fn syntax_notes(
     ensures { IfOk result (λ v. AreComments v.items) }
 {
     let mut notes = Notes::new(alloc, file, text);
-    match error {
-        ParseError::Syntax { token } => {
-            wrong_token(&mut notes, &spot_of(text, tokens, *token))?;
-        }
-        ParseError::TooDeep { token } => too_deep(&mut notes, &spot_of(text, tokens, *token))?,
-        ParseError::NoMemory => return Err(NoMemory),
-    }
+    tell_syntax(&mut notes, tokens, error)?;
     notes.bytes()
 }

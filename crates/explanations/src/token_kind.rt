@@ -1,10 +1,8 @@
 //! Kinds of tokens: each reserved word, each mark, names, numbers.
 
-use rsml_base::NoMemory;
-use rsml_syntax::{MARKS, Mark, Token, WORDS, Word};
-use std::alloc::Global;
+use rsml_syntax::{Mark, Token, Word};
 
-#[derive(Clone, Copy, Debug, PartialEq, Eq)]
+#[derive(Clone, Copy, PartialEq, Eq)]
 pub enum TokenKind {
     Word(Word),
     Mark(Mark),
@@ -33,31 +31,35 @@ impl TokenKind {
     }
 }
 
-/// All kinds.
-pub fn all_kinds(alloc: Global) -> Result<Vec<TokenKind>, NoMemory> {
-    let mut kinds = Vec::new(alloc);
-    kinds.push(TokenKind::Name)?;
-    kinds.push(TokenKind::Number)?;
-    for mark in MARKS {
-        kinds.push(TokenKind::Mark(mark))?;
-    }
-    for word in WORDS {
-        kinds.push(TokenKind::Word(word))?;
-    }
-    Ok(kinds)
-}
+/// Those with which a declaration begins.
+pub const DECLARATIONS: &[TokenKind] = &[
+    TokenKind::Word(Word::Enumeration),
+    TokenKind::Word(Word::Range),
+    TokenKind::Word(Word::Constant),
+    TokenKind::Word(Word::Input),
+    TokenKind::Word(Word::Event),
+    TokenKind::Word(Word::Macro),
+    TokenKind::Word(Word::Function),
+    TokenKind::Word(Word::Receive),
+    TokenKind::Word(Word::Send),
+];
+
+/// The relations between sums.
+pub const RELATIONS: &[TokenKind] = &[
+    TokenKind::Mark(Mark::Equal),
+    TokenKind::Mark(Mark::NotEqual),
+    TokenKind::Mark(Mark::Less),
+    TokenKind::Mark(Mark::LessEqual),
+    TokenKind::Mark(Mark::Greater),
+    TokenKind::Mark(Mark::GreaterEqual),
+];
 
 /// Whether a kind is among these.
 pub fn has_kind(kinds: &[TokenKind], kind: TokenKind) -> bool {
-    kinds.iter().any(|other| *other == kind)
-}
-
-/// Whether a mark is among these.
-pub fn has_mark(kinds: &[TokenKind], mark: Mark) -> bool {
-    has_kind(kinds, TokenKind::Mark(mark))
-}
-
-/// Whether a reserved word is among these.
-pub fn has_word(kinds: &[TokenKind], word: Word) -> bool {
-    has_kind(kinds, TokenKind::Word(word))
+    for other in kinds {
+        if *other == kind {
+            return true;
+        }
+    }
+    false
 }

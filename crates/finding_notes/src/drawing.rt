@@ -1,16 +1,15 @@
 //! Tables of members, drawn with the cells that fail.
 
-use crate::columns::{fails, holding};
 use crate::holdings::put_padded;
-use crate::truths::is_true;
-use and_or_tables::{GroundRow, GroundTable, Truths};
+use and_or_tables::{GroundRow, Truths};
 use ground_groups::Member;
+use group_mends::{TruthTable, fails, is_true};
 use rsml_base::NoMemory;
 use rsml_ground::GroundGuard;
 use rsml_syntax::Cell;
 use source_notes::{Notes, characters_in};
 use text_writer::{Draft, Writer, put_number};
-use written_members::{Scene, Written, guard_of, phrases, put_member, written_at};
+use written_members::{Scene, guard_of, phrases, put_member, written_at};
 
 /// How a cell is written.
 pub fn letter(cell: Cell) -> &'static [u8] {
@@ -35,20 +34,13 @@ fn put_cells(line: &mut Draft, cells: &[Cell], truth: bool) {
     }
 }
 
-/// Tells a row.
-fn tell_row(
-    notes: &mut Notes<'_>,
-    row: &GroundRow,
-    phrase: &[u8],
-    width: usize,
-    truths: &Truths,
-) -> Result<(), NoMemory> {
-    let mut line = Draft::new(notes.alloc());
-    line.put(b"    ");
+/// Tells a row whose phrase is written so, in this width.
+fn tell_row(notes: &mut Notes<'_>, row: &GroundRow, phrase: &[u8], width: usize, truths: &Truths) {
+    let mut line = notes.line("    ");
     put_padded(&mut line, phrase, width);
     line.put(b" |");
     put_cells(&mut line, row.cells.as_slice(), is_true(truths, row.phrase));
-    notes.add(line.finish()?.as_slice())
+    notes.keep(line);
 }
 
 /// How wide texts are.
@@ -69,104 +61,68 @@ pub fn text_at(texts: &[Vec<u8>], place: usize) -> &[u8] {
 }
 
 /// Tells the rows of a table with these phrases.
-fn tell_rows(
-    notes: &mut Notes<'_>,
-    table: &GroundTable,
-    phrases: &[Vec<u8>],
-    truths: &Truths,
-) -> Result<(), NoMemory> {
+fn tell_rows(notes: &mut Notes<'_>, table: TruthTable<'_>, phrases: &[Vec<u8>]) {
     let width = width(phrases);
-    for (place, row) in table.rows.as_slice().iter().enumerate() {
-        tell_row(notes, row, text_at(phrases, place), width, truths)?;
+    for (place, row) in table.rows.iter().enumerate() {
+        tell_row(notes, row, text_at(phrases, place), width, table.truths);
     }
-    Ok(())
 }
 
-/// What stands behind the number at a place of a list of so many.
-fn after(place: usize, count: usize) -> &'static [u8] {
-    match count.saturating_sub(place) {
-        0 | 1 => b"",
-        2 => b" and ",
+/// What stands behind a number of a list, where so many are left.
+fn behind(left: usize) -> &'static [u8] {
+    match left {
+        0 => b"",
+        1 => b" and ",
         _ => b", ",
     }
 }
 
-/// Puts numbers as a list.
-fn put_numbers(line: &mut Draft, numbers: &[usize]) {
-    for (place, number) in numbers.iter().enumerate() {
-        put_number(line, *number as u64);
-        line.put(after(place, numbers.len()));
-    }
-}
-
-/// Puts which columns hold.
-fn put_holding(line: &mut Draft, columns: &[usize]) {
-    match columns.len() {
-        0 => line.put(b"no column holds"),
-        1 => {
-            line.put(b"column ");
-            put_numbers(line, columns);
-            line.put(b" holds");
-        }
-        _ => {
-            line.put(b"columns ");
-            put_numbers(line, columns);
-            line.put(b" hold");
+/// Puts the numbers of the columns that hold, so many, as a list.
+fn put_holding(line: &mut Draft, table: TruthTable<'_>, count: usize) {
+    let mut left = count;
+    for column in 0..table.width() {
+        if table.holds(column) {
+            left = left.saturating_sub(1);
+            put_number(line, column.saturating_add(1) as u64);
+            line.put(behind(left));
         }
     }
 }
 
 /// Tells which columns of a table hold.
-fn tell_columns(
-    notes: &mut Notes<'_>,
-    table: &GroundTable,
-    truths: &Truths,
-) -> Result<(), NoMemory> {
-    let columns = holding(notes.alloc(), table, truths)?;
-    let mut line = Draft::new(notes.alloc());
-    line.put(b"    ");
-    put_holding(&mut line, columns.as_slice());
-    notes.add(line.finish()?.as_slice())
+fn tell_holding(notes: &mut Notes<'_>, table: TruthTable<'_>) {
+    let count = table.holding();
+    let (before, after) = match count {
+        0 => ("no column holds", ""),
+        1 => ("column ", " holds"),
+        _ => ("columns ", " hold"),
+    };
+    let mut line = notes.line("    ");
+    line.put(before.as_bytes());
+    put_holding(&mut line, table, count);
+    line.put(after.as_bytes());
+    notes.keep(line);
 }
 
 /// Tells a table that is the first behind an offset.
 fn tell_table(
     notes: &mut Notes<'_>,
     scene: &Scene<'_, '_>,
-    table: &GroundTable,
+    table: TruthTable<'_>,
     from: usize,
-    truths: &Truths,
 ) -> Result<(), NoMemory> {
-    let phrases = phrases(notes.alloc(), scene.source.plain(), from)?;
-    tell_rows(notes, table, phrases.as_slice(), truths)?;
-    tell_columns(notes, table, truths)
+    let phrases = phrases(notes.alloc(), scene.source.text(), from)?;
+    tell_rows(notes, table, phrases.as_slice());
+    tell_holding(notes, table);
+    Ok(())
 }
 
-/// Tells a guard.
-fn tell_guard(
-    notes: &mut Notes<'_>,
-    scene: &Scene<'_, '_>,
-    guard: &GroundGuard,
-    from: usize,
-    truths: &Truths,
-) -> Result<(), NoMemory> {
-    match guard {
-        GroundGuard::Always => notes.add(b"    always"),
-        GroundGuard::Table(table) => tell_table(notes, scene, table, from, truths),
-    }
-}
-
-/// Tells what a member is, and where it stands.
-fn tell_label(
-    notes: &mut Notes<'_>,
-    scene: &Scene<'_, '_>,
-    member: Member,
-    at: Written,
-) -> Result<(), NoMemory> {
-    let mut line = Draft::new(notes.alloc());
-    scene.source.put_place(&mut line, at.at);
+/// Tells what a member is, at an offset.
+fn tell_label(notes: &mut Notes<'_>, scene: &Scene<'_, '_>, member: Member, at: usize) {
+    let mut line = notes.line("");
+    scene.source.put_place(&mut line, at);
     put_member(&mut line, scene.machine, member);
-    notes.add(line.finish()?.as_slice())
+    notes.keep(line);
 }
 
 /// Tells a member of a group, with its table by these truths.
@@ -179,9 +135,16 @@ pub fn tell_member(
     let Some(at) = written_at(scene, member) else {
         return Ok(());
     };
-    tell_label(notes, scene, member, at)?;
+    tell_label(notes, scene, member, at.at);
     match guard_of(scene.machine, member) {
-        Some(guard) => tell_guard(notes, scene, guard, at.table, truths),
+        Some(GroundGuard::Table(table)) => {
+            let rows = table.rows.as_slice();
+            tell_table(notes, scene, TruthTable { rows, truths }, at.table)
+        }
+        Some(GroundGuard::Always) => {
+            notes.say("  always");
+            Ok(())
+        }
         None => Ok(()),
     }
 }

@@ -1,8 +1,9 @@
 //! What a finding is of.
 
-use ground_groups::{GroupKind, Member};
+use crate::finding::Finding;
+use crate::shown::next;
+use ground_groups::GroupKind;
 use instance_texts::put_path;
-use rsml_base::NoMemory;
 use source_notes::Notes;
 use text_writer::{Draft, Writer, put_number};
 use written_members::{Scene, written_at};
@@ -57,28 +58,24 @@ fn put_kind(line: &mut Draft, scene: &Scene<'_, '_>, kind: GroupKind, count: usi
     }
 }
 
-/// Puts where the first of members stands.
-fn put_first(line: &mut Draft, scene: &Scene<'_, '_>, members: &[Member]) {
-    if let Some(member) = members.first()
-        && let Some(at) = written_at(scene, *member)
+/// Puts where the first member that is shown stands.
+fn put_first(line: &mut Draft, scene: &Scene<'_, '_>, finding: Finding<'_>) {
+    if let Some(first) = next(scene.machine, finding, None)
+        && let Some(at) = written_at(scene, first.member)
     {
         scene.source.put_place(line, at.at);
     }
 }
 
-/// Tells that so many members of a group are enabled, at the first of those that are shown.
-pub fn tell_head(
-    notes: &mut Notes<'_>,
-    scene: &Scene<'_, '_>,
-    group: u32,
-    count: usize,
-    shown: &[Member],
-) -> Result<(), NoMemory> {
-    let mut line = Draft::new(notes.alloc());
-    put_first(&mut line, scene, shown);
+/// Tells what is found of a group, of which so many members are shown, at the first of them.
+pub fn tell_head(notes: &mut Notes<'_>, scene: &Scene<'_, '_>, finding: Finding<'_>, shown: usize) {
+    let mut line = notes.line("");
+    put_first(&mut line, scene, finding);
+    line.put(b"error: ");
     let groups = scene.machine.groups();
-    if group < groups.count() {
-        put_kind(&mut line, scene, groups.kind(group), count);
+    if finding.group < groups.count() {
+        let count = if finding.is_double { shown } else { 0 };
+        put_kind(&mut line, scene, groups.kind(finding.group), count);
     }
-    notes.add(line.finish()?.as_slice())
+    notes.keep(line);
 }

@@ -1,6 +1,6 @@
 //! What a world holds.
 
-use crate::reads::Reads;
+use crate::reads::{Read, Reads};
 use instance_texts::put_path;
 use rsml_base::NoMemory;
 use rsml_names::children_of;
@@ -11,112 +11,113 @@ use std::alloc::Global;
 use text_writer::{Draft, Writer};
 use written_members::Scene;
 
-/// A component or cell, and what it holds.
-#[derive(Drop)]
-struct Held {
-    name: Vec<u8>,
-    value: Vec<u8>,
+/// A component and the name of its active child, or a cell and its value.
+#[derive(Clone, Copy)]
+enum Held<'h, 'a> {
+    Child {
+        component: &'h [StepRef<'a>],
+        child: &'a [u8],
+    },
+    Value {
+        cell: u32,
+        value: i64,
+    },
 }
 
-/// The name of the child at a place of a state.
-fn child_name<'a>(tree: &Tree<'a>, state: u32, place: u8) -> Option<&'a [u8]> {
-    let body = tree.states().body(state)?;
-    let child = children_of(body).get(place as usize)?;
-    Some(child.name.bytes())
-}
-
-/// The child that a component has in a world.
-fn choice(world: &World, component: u32) -> Option<u8> {
-    world.choices.get(component as usize).copied()
-}
-
-/// A path, and what it holds.
-fn held_by(alloc: Global, path: &[StepRef<'_>], value: &[u8]) -> Result<Held, NoMemory> {
-    let mut name = Draft::new(alloc);
-    put_path(&mut name, path);
-    Ok(Held {
-        name: name.finish()?,
-        value: Vec::from_slice(alloc, value)?,
-    })
-}
-
-/// Adds the active child of a state, if it is a component that is read.
-fn add_child(
-    held: &mut Vec<Held>,
-    alloc: Global,
-    tree: &Tree<'_>,
+/// The active child of a state, if it is a component that is read.
+fn child_at<'h, 'a>(
+    tree: &'h Tree<'a>,
     reads: &Reads,
     world: &World,
     state: u32,
-) -> Result<(), NoMemory> {
-    let Some(component) = tree.component_of(state) else {
-        return Ok(());
-    };
-    if !reads.component(component) {
-        return Ok(());
+) -> Option<Held<'h, 'a>> {
+    let number = tree.component_of(state)?;
+    if !reads.has(Read::Component(number)) {
+        return None;
     }
-    let Some(place) = choice(world, component) else {
-        return Ok(());
-    };
-    if let Some(path) = tree.states().path(state)
-        && let Some(child) = child_name(tree, state, place)
-    {
-        held.push(held_by(alloc, path, child)?)?;
-    }
-    Ok(())
-}
-
-/// Adds the active children of the components that are read.
-fn add_children(
-    held: &mut Vec<Held>,
-    alloc: Global,
-    tree: &Tree<'_>,
-    reads: &Reads,
-    world: &World,
-) -> Result<(), NoMemory> {
-    for state in 0..tree.nodes() {
-        add_child(held, alloc, tree, reads, world, state)?;
-    }
-    Ok(())
-}
-
-/// A cell, and what it holds.
-fn cell(alloc: Global, scene: &Scene<'_, '_>, number: u32, value: i64) -> Result<Held, NoMemory> {
-    let mut name = Draft::new(alloc);
-    scene.texts.put_cell(&mut name, number);
-    let mut text = Draft::new(alloc);
-    scene.texts.put_value(&mut text, number, value);
-    Ok(Held {
-        name: name.finish()?,
-        value: text.finish()?,
+    let place = world.choices.get(number as usize)?;
+    let component = tree.states().path(state)?;
+    let body = tree.states().body(state)?;
+    let child = children_of(body).get(*place as usize)?;
+    Some(Held::Child {
+        component,
+        child: child.name.bytes(),
     })
 }
 
-/// Adds the cells that are read.
-fn add_cells(
-    held: &mut Vec<Held>,
+/// The value of a cell, if it is read.
+fn value_at<'h, 'a>(reads: &Reads, world: &World, cell: u32) -> Option<Held<'h, 'a>> {
+    if !reads.has(Read::Cell(cell)) {
+        return None;
+    }
+    let value = world.cells.get(cell as usize)?;
+    Some(Held::Value {
+        cell,
+        value: *value,
+    })
+}
+
+/// What is held at a place: states come first, then cells.
+fn held_at<'h, 'a>(
+    tree: &'h Tree<'a>,
+    reads: &Reads,
+    world: &World,
+    place: u32,
+) -> Option<Held<'h, 'a>> {
+    if place < tree.nodes() {
+        child_at(tree, reads, world, place)
+    } else {
+        value_at(reads, world, place.saturating_sub(tree.nodes()))
+    }
+}
+
+/// How many such places there are.
+fn places(tree: &Tree<'_>, world: &World) -> u32 {
+    match u32::try_from(world.cells.len()) {
+        Ok(cells) => tree.nodes().saturating_add(cells),
+        Err(_) => tree.nodes(),
+    }
+}
+
+/// The name of a component or cell.
+fn name_of(alloc: Global, scene: &Scene<'_, '_>, held: Held<'_, '_>) -> Result<Vec<u8>, NoMemory> {
+    let mut name = Draft::new(alloc);
+    match held {
+        Held::Child { component, .. } => put_path(&mut name, component),
+        Held::Value { cell, .. } => scene.texts.put_cell(&mut name, cell),
+    }
+    name.finish()
+}
+
+/// Puts what is held.
+fn put_held(line: &mut Draft, scene: &Scene<'_, '_>, held: Held<'_, '_>) {
+    match held {
+        Held::Child { child, .. } => line.put(child),
+        Held::Value { cell, value } => scene.texts.put_value(line, cell, value),
+    }
+}
+
+/// How wide a name is.
+fn width_of(alloc: Global, scene: &Scene<'_, '_>, held: Held<'_, '_>) -> Result<usize, NoMemory> {
+    let name = name_of(alloc, scene, held)?;
+    Ok(characters_in(name.as_slice()))
+}
+
+/// How wide the names of components and cells are that are read. 0 where there are none.
+fn width(
     alloc: Global,
     scene: &Scene<'_, '_>,
     reads: &Reads,
     world: &World,
-) -> Result<(), NoMemory> {
-    let mut number: u32 = 0;
-    for value in world.cells.as_slice() {
-        if reads.cell(number) {
-            held.push(cell(alloc, scene, number, *value)?)?;
-        }
-        number = number.saturating_add(1);
-    }
-    Ok(())
-}
-
-/// How wide the names are.
-fn width(held: &[Held]) -> usize {
+) -> Result<usize, NoMemory> {
+    let tree = scene.machine.tree();
     let mut width: usize = 0;
-    for one in held {
-        width = width.max(characters_in(one.name.as_slice()));
+    for place in 0..places(tree, world) {
+        if let Some(held) = held_at(tree, reads, world, place) {
+            width = width.max(width_of(alloc, scene, held)?);
+        }
     }
-    width
+    Ok(width)
 }
 
 /// Puts a text, and blanks up to a width.
@@ -127,14 +128,20 @@ pub fn put_padded(line: &mut Draft, text: &[u8], width: usize) {
     }
 }
 
-/// Tells what one holds.
-fn tell_held(notes: &mut Notes<'_>, held: &Held, width: usize) -> Result<(), NoMemory> {
-    let mut line = Draft::new(notes.alloc());
-    line.put(b"    ");
-    put_padded(&mut line, held.name.as_slice(), width);
+/// Tells what one component or cell holds.
+fn tell_held(
+    notes: &mut Notes<'_>,
+    scene: &Scene<'_, '_>,
+    held: Held<'_, '_>,
+    width: usize,
+) -> Result<(), NoMemory> {
+    let name = name_of(notes.alloc(), scene, held)?;
+    let mut line = notes.line("    ");
+    put_padded(&mut line, name.as_slice(), width);
     line.put(b" = ");
-    line.put(held.value.as_slice());
-    notes.add(line.finish()?.as_slice())
+    put_held(&mut line, scene, held);
+    notes.keep(line);
+    Ok(())
 }
 
 /// Tells what is read of a world.
@@ -144,17 +151,16 @@ pub fn tell_world(
     reads: &Reads,
     world: &World,
 ) -> Result<(), NoMemory> {
-    let alloc = notes.alloc();
-    let mut held = Vec::new(alloc);
-    add_children(&mut held, alloc, scene.machine.tree(), reads, world)?;
-    add_cells(&mut held, alloc, scene, reads, world)?;
-    if held.is_empty() {
+    let width = width(notes.alloc(), scene, reads, world)?;
+    if width == 0 {
         return Ok(());
     }
-    notes.add(b"  where")?;
-    let width = width(held.as_slice());
-    for one in held.as_slice() {
-        tell_held(notes, one, width)?;
+    notes.say("where");
+    let tree = scene.machine.tree();
+    for place in 0..places(tree, world) {
+        if let Some(held) = held_at(tree, reads, world, place) {
+            tell_held(notes, scene, held, width)?;
+        }
     }
     Ok(())
 }

@@ -1,298 +1,281 @@
 //! Rows that would mend a group with two enabled members.
 
-use crate::columns::holding;
 use crate::drawing::{letter, text_at};
-use crate::ranks::MOST_ROWS;
-use crate::sharing::{Standing, beside, standing_in_sound};
-use crate::truths::is_true;
-use and_or_tables::{GroundRow, GroundTable, Truths};
+use crate::finding::Finding;
+use crate::sharing::{alike_at, alike_count, beside};
+use and_or_tables::{GroundRow, Truths};
 use elaborate::Machine;
 use finding_texts::Verdict;
 use ground_groups::Member;
-use group_mends::{Added, Change, columns_stay, is_among, is_sound_with};
+use group_mends::{
+    Added, Change, TruthTable, cell_at, columns_stay, is_sound_with, is_true, member_count, rows_of,
+};
 use guard_encode::Encoder;
 use rsml_base::NoMemory;
 use rsml_ground::GroundGuard;
 use rsml_syntax::Cell;
 use source_notes::Notes;
 use text_writer::{Draft, Writer};
-use written_members::{Scene, guard_of, members, phrases, width, written_at};
+use written_members::{Scene, guard_of, phrases, written_at};
+
+/// How many rows a table has at most.
+const MOST_ROWS: usize = 64;
 
 /// How many other groups are asked at most whether they stay sound with a row.
 const MOST_OTHERS: usize = 64;
 
-/// A group in which two members are enabled where phrases have these truths, and what is found of all groups.
+/// A member that is enabled, and its table.
 #[derive(Clone, Copy)]
-pub struct Doubled<'d> {
-    pub group: u32,
-    pub truths: &'d Truths,
-    pub verdicts: &'d [Verdict],
-}
-
-/// A member that is enabled, its table, and the columns that hold.
-#[derive(Drop)]
 struct Enabled<'m> {
     member: Member,
-    table: &'m GroundTable,
-    columns: Vec<usize>,
+    table: TruthTable<'m>,
+}
+
+/// The row at a place of one member with the phrase that fails, added to another where its columns hold.
+#[derive(Clone, Copy)]
+struct Attempt<'m> {
+    from: Member,
+    place: usize,
+    to: Member,
+    added: Added<'m>,
 }
 
 /// A member that is enabled, if it has a table.
-fn enabled_table<'m>(
-    notes: &Notes<'_>,
+fn enabled_member<'m>(
     machine: &'m Machine<'_>,
     member: Member,
-    truths: &Truths,
-) -> Result<Option<Enabled<'m>>, NoMemory> {
-    match guard_of(machine, member) {
-        Some(GroundGuard::Table(table)) => {
-            let columns = holding(notes.alloc(), table, truths)?;
-            Ok(Some(Enabled {
-                member,
-                table,
-                columns,
-            }))
+    truths: &'m Truths,
+) -> Option<Enabled<'m>> {
+    match guard_of(machine, member)? {
+        GroundGuard::Always => None,
+        GroundGuard::Table(table) => {
+            let rows = table.rows.as_slice();
+            let table = TruthTable { rows, truths };
+            Some(Enabled { member, table })
         }
-        _ => Ok(None),
     }
 }
 
-/// Whether one of these columns asks for the phrase of a row.
-fn is_asked(row: &GroundRow, columns: &[usize]) -> bool {
-    for (place, cell) in row.cells.as_slice().iter().enumerate() {
-        if *cell != Cell::Dot && is_among(columns, place) {
+/// Whether a column that holds asks for the phrase of a row.
+fn is_asked(row: &GroundRow, table: TruthTable<'_>) -> bool {
+    for column in 0..table.width() {
+        if cell_at(row, column) != Cell::Dot && table.holds(column) {
             return true;
         }
     }
     false
 }
 
-/// The cell that fails where a phrase has this truth.
-fn against(truth: bool) -> Cell {
-    if truth { Cell::F } else { Cell::T }
-}
-
-/// The row with the phrase of another that fails in the columns of a member that hold.
-fn added_from<'e>(row: &GroundRow, truths: &Truths, to: &'e Enabled<'_>) -> Added<'e> {
-    Added {
-        phrase: row.phrase,
-        cell: against(is_true(truths, row.phrase)),
-        columns: to.columns.as_slice(),
+/// The row at a place of one member to be added to another, if a column that holds asks for its phrase.
+fn attempt_at<'m>(from: Enabled<'_>, to: Enabled<'m>, place: usize) -> Option<Attempt<'m>> {
+    let row = from.table.rows.get(place)?;
+    if !is_asked(row, from.table) {
+        return None;
     }
+    let truth = is_true(from.table.truths, row.phrase);
+    Some(Attempt {
+        from: from.member,
+        place,
+        to: to.member,
+        added: Added {
+            phrase: row.phrase,
+            cell: if truth { Cell::F } else { Cell::T },
+            table: to.table,
+        },
+    })
 }
 
-/// The phrase of the row at a place of the table of a member.
-fn phrase_at(machine: &Machine<'_>, member: Member, place: usize) -> Option<u32> {
-    match guard_of(machine, member)? {
-        GroundGuard::Always => None,
-        GroundGuard::Table(table) => {
-            let row = table.rows.get(place)?;
-            Some(row.phrase)
-        }
-    }
+/// The phrase of an attempt for a member that is written as the one to which the row is added.
+fn phrase_for(machine: &Machine<'_>, attempt: Attempt<'_>, member: Member) -> Option<u32> {
+    let beside = beside(machine, member, attempt.from)?;
+    let row = rows_of(guard_of(machine, beside)?).get(attempt.place)?;
+    Some(row.phrase)
 }
 
-/// Whether another group stays sound, where the row at a place of one member is added to a member that stands there.
+/// Whether another group stays sound, where the row is added to a member that stands there.
 fn stays(
     notes: &Notes<'_>,
     encoder: &mut Encoder<'_, '_>,
-    standing: Standing,
-    from: Member,
-    place: usize,
-    added: Added<'_>,
+    group: u32,
+    member: Member,
+    attempt: Attempt<'_>,
 ) -> Result<bool, NoMemory> {
-    let machine = encoder.machine();
-    let Some(beside) = beside(machine, standing.member, from) else {
+    let Some(phrase) = phrase_for(encoder.machine(), attempt, member) else {
         return Ok(false);
     };
-    let Some(phrase) = phrase_at(machine, beside, place) else {
-        return Ok(false);
+    let added = Added {
+        phrase,
+        cell: attempt.added.cell,
+        table: attempt.added.table,
     };
-    let change = Change {
-        member: standing.member,
-        added: Added {
-            phrase,
-            cell: added.cell,
-            columns: added.columns,
-        },
-    };
-    let members = members(notes.alloc(), machine, standing.group)?;
-    is_sound_with(
-        notes.alloc(),
-        encoder,
-        standing.group,
-        members.as_slice(),
-        change,
-    )
+    is_sound_with(notes.alloc(), encoder, group, Change { member, added })
 }
 
-/// Whether all these groups stay sound, where the row at a place of one member is added. False, where they are too many.
-fn all_stay(
+/// Whether another group stays sound, where the row is added to each of its members that is written as the one.
+fn group_stays(
     notes: &Notes<'_>,
+    scene: &Scene<'_, '_>,
     encoder: &mut Encoder<'_, '_>,
-    others: &[Standing],
-    from: Member,
-    place: usize,
-    added: Added<'_>,
+    group: u32,
+    attempt: Attempt<'_>,
 ) -> Result<bool, NoMemory> {
-    if others.len() > MOST_OTHERS {
-        return Ok(false);
-    }
-    for other in others {
-        if !stays(notes, encoder, *other, from, place, added)? {
+    for place in 0..member_count(scene.machine, group) {
+        if let Some(member) = alike_at(scene, group, place, attempt.to)
+            && !stays(notes, encoder, group, member, attempt)?
+        {
             return Ok(false);
         }
     }
     Ok(true)
 }
 
-/// Whether a group is sound after a change that leaves no column without a world.
-fn mends(
-    notes: &Notes<'_>,
-    encoder: &mut Encoder<'_, '_>,
-    group: u32,
-    change: Change<'_>,
-) -> Result<bool, NoMemory> {
-    let members = members(notes.alloc(), encoder.machine(), group)?;
-    if !is_sound_with(notes.alloc(), encoder, group, members.as_slice(), change)? {
-        return Ok(false);
-    }
-    columns_stay(notes.alloc(), encoder, group, change)
+/// Whether a group is sound.
+fn is_sound(verdicts: &[Verdict], group: u32) -> bool {
+    matches!(verdicts.get(group as usize), Some(Verdict::Sound))
 }
 
-/// Whether the row at a place of one member, added to the table of the other, mends a group and leaves the others sound.
+/// Whether members of too many sound groups are written as this one.
+fn are_many(scene: &Scene<'_, '_>, verdicts: &[Verdict], member: Member) -> bool {
+    let mut count: usize = 0;
+    for group in 0..scene.machine.groups().count() {
+        if is_sound(verdicts, group) {
+            count = count.saturating_add(alike_count(scene, group, member));
+        }
+    }
+    count > MOST_OTHERS
+}
+
+/// Whether all sound groups stay sound, where the row is added. False, where they are too many.
+fn all_stay(
+    notes: &Notes<'_>,
+    scene: &Scene<'_, '_>,
+    encoder: &mut Encoder<'_, '_>,
+    verdicts: &[Verdict],
+    attempt: Attempt<'_>,
+) -> Result<bool, NoMemory> {
+    if are_many(scene, verdicts, attempt.to) {
+        return Ok(false);
+    }
+    for group in 0..scene.machine.groups().count() {
+        if is_sound(verdicts, group) && !group_stays(notes, scene, encoder, group, attempt)? {
+            return Ok(false);
+        }
+    }
+    Ok(true)
+}
+
+/// Whether a row mends a group, leaves no column without a world, and leaves the other groups sound.
 fn is_mend(
     notes: &Notes<'_>,
     scene: &Scene<'_, '_>,
     encoder: &mut Encoder<'_, '_>,
-    doubled: Doubled<'_>,
-    from: Member,
-    place: usize,
-    change: Change<'_>,
+    finding: Finding<'_>,
+    attempt: Attempt<'_>,
 ) -> Result<bool, NoMemory> {
-    if !mends(notes, encoder, doubled.group, change)? {
-        return Ok(false);
-    }
-    let others = standing_in_sound(notes.alloc(), scene, doubled.verdicts, change.member)?;
-    all_stay(notes, encoder, others.as_slice(), from, place, change.added)
+    let change = Change {
+        member: attempt.to,
+        added: attempt.added,
+    };
+    Ok(
+        is_sound_with(notes.alloc(), encoder, finding.group, change)?
+            && columns_stay(notes.alloc(), encoder, finding.group, attempt.added)?
+            && all_stay(notes, scene, encoder, finding.verdicts, attempt)?,
+    )
 }
 
-/// The place of the first row of one member whose phrase, added to the table of the other, mends a group.
-fn mending_row(
+/// The first row of one member whose phrase, added to the table of the other, mends a group.
+fn mend<'m>(
     notes: &Notes<'_>,
     scene: &Scene<'_, '_>,
     encoder: &mut Encoder<'_, '_>,
-    doubled: Doubled<'_>,
-    from: &Enabled<'_>,
-    to: &Enabled<'_>,
-) -> Result<Option<usize>, NoMemory> {
+    finding: Finding<'_>,
+    from: Enabled<'_>,
+    to: Enabled<'m>,
+) -> Result<Option<Attempt<'m>>, NoMemory> {
     if to.table.rows.len() >= MOST_ROWS {
         return Ok(None);
     }
-    for (place, row) in from.table.rows.as_slice().iter().enumerate() {
-        if is_asked(row, from.columns.as_slice()) {
-            let change = Change {
-                member: to.member,
-                added: added_from(row, doubled.truths, to),
-            };
-            if is_mend(notes, scene, encoder, doubled, from.member, place, change)? {
-                return Ok(Some(place));
-            }
+    for place in 0..from.table.rows.len() {
+        if let Some(attempt) = attempt_at(from, to, place)
+            && is_mend(notes, scene, encoder, finding, attempt)?
+        {
+            return Ok(Some(attempt));
         }
     }
     Ok(None)
 }
 
-/// The cells of a row that is added to a table of so many columns.
-fn put_added(line: &mut Draft, added: Added<'_>, width: usize) {
-    for place in 0..width {
+/// Puts the cells of an added row.
+fn put_cells(line: &mut Draft, added: Added<'_>) {
+    for column in 0..added.table.width() {
         line.put(b" ");
-        line.put(letter(if is_among(added.columns, place) {
-            added.cell
-        } else {
-            Cell::Dot
-        }));
+        line.put(letter(added.cell_in(column)));
     }
 }
 
-/// Tells that a row of this phrase, added to a table, mends a group.
+/// Puts where a member is written.
+fn put_position(line: &mut Draft, scene: &Scene<'_, '_>, member: Member) {
+    if let Some(at) = written_at(scene, member) {
+        scene.source.put_position(line, at.at);
+    }
+}
+
+/// Tells that a row with this phrase mends a group.
 fn tell_row(
     notes: &mut Notes<'_>,
     scene: &Scene<'_, '_>,
-    lead: &[u8],
+    lead: &str,
     phrase: &[u8],
-    added: Added<'_>,
-    to: &Enabled<'_>,
-) -> Result<(), NoMemory> {
-    let mut line = Draft::new(notes.alloc());
-    line.put(b"  ");
-    line.put(lead);
+    attempt: Attempt<'_>,
+) {
+    let mut line = notes.line("  ");
+    line.put(lead.as_bytes());
     line.put(b"the row `");
     line.put(phrase);
     line.put(b" |");
-    put_added(&mut line, added, width(to.table));
+    put_cells(&mut line, attempt.added);
     line.put(b"`, added to the table at ");
-    if let Some(at) = written_at(scene, to.member) {
-        scene.source.put_position(&mut line, at.at);
-    }
+    put_position(&mut line, scene, attempt.to);
     line.put(b", would mend this");
-    notes.add(line.finish()?.as_slice())
+    notes.keep(line);
 }
 
-/// Tells that the row at a place of one member, added to the table of the other, mends a group.
+/// Tells that a row mends a group, with its phrase as it is written.
 fn tell_mend(
     notes: &mut Notes<'_>,
     scene: &Scene<'_, '_>,
-    truths: &Truths,
-    lead: &[u8],
-    place: usize,
-    from: &Enabled<'_>,
-    to: &Enabled<'_>,
+    lead: &str,
+    attempt: Attempt<'_>,
 ) -> Result<(), NoMemory> {
-    let Some(row) = from.table.rows.get(place) else {
+    let Some(at) = written_at(scene, attempt.from) else {
         return Ok(());
     };
-    let Some(at) = written_at(scene, from.member) else {
-        return Ok(());
-    };
-    let phrases = phrases(notes.alloc(), scene.source.plain(), at.table)?;
-    let phrase = text_at(phrases.as_slice(), place);
-    tell_row(notes, scene, lead, phrase, added_from(row, truths, to), to)
+    let phrases = phrases(notes.alloc(), scene.source.text(), at.table)?;
+    let phrase = text_at(phrases.as_slice(), attempt.place);
+    tell_row(notes, scene, lead, phrase, attempt);
+    Ok(())
 }
 
 /// Tells the rows that mend a group: of the one member in the table of the other, and of the other in the table of the one.
-fn tell_found(
-    notes: &mut Notes<'_>,
-    scene: &Scene<'_, '_>,
-    truths: &Truths,
-    one: &Enabled<'_>,
-    two: &Enabled<'_>,
-    first: Option<usize>,
-    second: Option<usize>,
-) -> Result<(), NoMemory> {
-    match (first, second) {
-        (Some(first), Some(second)) => {
-            tell_mend(notes, scene, truths, b"either ", first, one, two)?;
-            tell_mend(notes, scene, truths, b"or ", second, two, one)
-        }
-        (Some(first), None) => tell_mend(notes, scene, truths, b"", first, one, two),
-        (None, Some(second)) => tell_mend(notes, scene, truths, b"", second, two, one),
-        (None, None) => Ok(()),
-    }
-}
-
-/// Tells rows that mend a group in which these two members are enabled.
 fn tell_between(
     notes: &mut Notes<'_>,
     scene: &Scene<'_, '_>,
     encoder: &mut Encoder<'_, '_>,
-    doubled: Doubled<'_>,
-    one: &Enabled<'_>,
-    two: &Enabled<'_>,
+    finding: Finding<'_>,
+    one: Enabled<'_>,
+    two: Enabled<'_>,
 ) -> Result<(), NoMemory> {
-    let first = mending_row(notes, scene, encoder, doubled, one, two)?;
-    let second = mending_row(notes, scene, encoder, doubled, two, one)?;
-    tell_found(notes, scene, doubled.truths, one, two, first, second)
+    let first = mend(notes, scene, encoder, finding, one, two)?;
+    let second = mend(notes, scene, encoder, finding, two, one)?;
+    match (first, second) {
+        (Some(first), Some(second)) => {
+            tell_mend(notes, scene, "either ", first)?;
+            tell_mend(notes, scene, "or ", second)
+        }
+        (Some(first), None) => tell_mend(notes, scene, "", first),
+        (None, Some(second)) => tell_mend(notes, scene, "", second),
+        (None, None) => Ok(()),
+    }
 }
 
 /// The component of a member, if it is a transition.
@@ -312,7 +295,7 @@ pub fn tell_mends(
     notes: &mut Notes<'_>,
     scene: &Scene<'_, '_>,
     encoder: &mut Encoder<'_, '_>,
-    doubled: Doubled<'_>,
+    finding: Finding<'_>,
     one: Member,
     two: Member,
 ) -> Result<(), NoMemory> {
@@ -320,11 +303,11 @@ pub fn tell_mends(
     if component_of(machine, one) != component_of(machine, two) {
         return Ok(());
     }
-    let Some(one) = enabled_table(notes, machine, one, doubled.truths)? else {
+    let Some(one) = enabled_member(machine, one, finding.truths) else {
         return Ok(());
     };
-    let Some(two) = enabled_table(notes, machine, two, doubled.truths)? else {
+    let Some(two) = enabled_member(machine, two, finding.truths) else {
         return Ok(());
     };
-    tell_between(notes, scene, encoder, doubled, &one, &two)
+    tell_between(notes, scene, encoder, finding, one, two)
 }

@@ -1,92 +1,99 @@
 //! What a group reads of a world: components, cells and phrases, also those behind macros, functions and quantifiers.
 
-use and_or_tables::GroundTable;
+use and_or_tables::GroundRow;
 use elaborate::Machine;
-use ground_groups::{GroupKind, Member};
+use ground_groups::GroupKind;
+use group_mends::{member_at, member_count, rows_of};
 use rsml_base::NoMemory;
-use rsml_ground::{Definition, GroundCase, GroundGuard, GroundOperand, GroundPhrase, GroundSum};
+use rsml_ground::{Definition, GroundCase, GroundOperand, GroundPhrase, GroundSum};
 use state_tree::Tree;
 use std::alloc::Global;
-use written_members::{definition_of, guard_of, members};
+use written_members::{definition_of, guard_of};
 
 /// How many states stand around one another at most.
 const MOST_DEPTH: u32 = 16;
 
-/// What is read.
+/// What may be read, by its number.
+#[derive(Clone, Copy)]
+pub enum Read {
+    Component(u32),
+    Cell(u32),
+    Phrase(u32),
+}
+
+/// What is read: a mark for each component, then for each cell, then for each phrase.
 #[derive(Drop)]
 pub struct Reads {
-    components: Vec<bool>,
-    cells: Vec<bool>,
-    phrases: Vec<bool>,
-}
-
-/// Marks a number.
-fn mark(marks: &mut Vec<bool>, number: u32) {
-    if (number as usize) < marks.len() {
-        marks[number as usize] = true;
-    }
-}
-
-/// Whether a number is marked.
-fn is_marked(marks: &[bool], number: u32) -> bool {
-    match marks.get(number as usize) {
-        Some(marked) => *marked,
-        None => false,
-    }
+    components: usize,
+    cells: usize,
+    marks: Vec<bool>,
 }
 
 impl Reads {
     /// Nothing so far.
-    fn new(alloc: Global, machine: &Machine<'_>) -> Result<Reads, NoMemory> {
-        let components = Vec::from_elem(alloc, false, machine.tree().components() as usize)?;
-        let cells = Vec::from_elem(alloc, false, machine.cells())?;
-        let phrases = Vec::from_elem(alloc, false, machine.macros().phrases() as usize)?;
+    pub fn new(alloc: Global, machine: &Machine<'_>) -> Result<Reads, NoMemory> {
+        let components = machine.tree().components() as usize;
+        let cells = machine.cells();
+        let count = components
+            .saturating_add(cells)
+            .saturating_add(machine.macros().phrases() as usize);
+        let marks = Vec::from_elem(alloc, false, count)?;
         Ok(Reads {
             components,
             cells,
-            phrases,
+            marks,
         })
     }
 
-    /// Whether a component is read.
-    pub fn component(&self, number: u32) -> bool {
-        is_marked(self.components.as_slice(), number)
+    /// The place of a mark.
+    fn place(&self, read: Read) -> usize {
+        match read {
+            Read::Component(number) => number as usize,
+            Read::Cell(number) => self.components.saturating_add(number as usize),
+            Read::Phrase(number) => self
+                .components
+                .saturating_add(self.cells)
+                .saturating_add(number as usize),
+        }
     }
 
-    /// Whether a cell is read.
-    pub fn cell(&self, number: u32) -> bool {
-        is_marked(self.cells.as_slice(), number)
+    /// Marks what is read.
+    fn mark(&mut self, read: Read) {
+        let place = self.place(read);
+        if place < self.marks.len() {
+            self.marks[place] = true;
+        }
     }
-}
 
-/// Reads the component of a state, if it is one.
-fn read_component(reads: &mut Reads, tree: &Tree<'_>, state: u32) {
-    match tree.component_of(state) {
-        Some(component) => mark(&mut reads.components, component),
-        None => {}
-    }
-}
-
-/// Reads whether a state is active.
-fn read_state(reads: &mut Reads, tree: &Tree<'_>, state: u32) {
-    let mut inner = state;
-    for _ in 0..MOST_DEPTH {
-        match tree.parent(inner) {
-            Some(outer) => {
-                read_component(reads, tree, outer);
-                inner = outer;
-            }
-            None => break,
+    /// Whether this is read.
+    pub fn has(&self, read: Read) -> bool {
+        match self.marks.get(self.place(read)) {
+            Some(marked) => *marked,
+            None => false,
         }
     }
 }
 
-/// Reads a sum.
+/// Reads whether a state is active: the components around it.
+fn read_state(reads: &mut Reads, tree: &Tree<'_>, state: u32) {
+    let mut inner = state;
+    for _ in 0..MOST_DEPTH {
+        let Some(outer) = tree.parent(inner) else {
+            break;
+        };
+        if let Some(component) = tree.component_of(outer) {
+            reads.mark(Read::Component(component));
+        }
+        inner = outer;
+    }
+}
+
+/// Reads the cells of a sum.
 fn read_sum(reads: &mut Reads, sum: &GroundSum) {
     for term in sum.terms.as_slice() {
         match term.operand {
             GroundOperand::Number(_) => {}
-            GroundOperand::Cell(cell) => mark(&mut reads.cells, cell),
+            GroundOperand::Cell(cell) => reads.mark(Read::Cell(cell)),
         }
     }
 }
@@ -94,29 +101,21 @@ fn read_sum(reads: &mut Reads, sum: &GroundSum) {
 /// Reads phrases.
 fn read_phrases(reads: &mut Reads, numbers: &[u32]) {
     for number in numbers {
-        mark(&mut reads.phrases, *number);
+        reads.mark(Read::Phrase(*number));
     }
 }
 
-/// Reads the phrases of a table.
-fn read_table(reads: &mut Reads, table: &GroundTable) {
-    for row in table.rows.as_slice() {
-        mark(&mut reads.phrases, row.phrase);
-    }
-}
-
-/// Reads the phrases of a guard.
-fn read_guard(reads: &mut Reads, guard: &GroundGuard) {
-    match guard {
-        GroundGuard::Always => {}
-        GroundGuard::Table(table) => read_table(reads, table),
+/// Reads the phrases of rows.
+fn read_rows(reads: &mut Reads, rows: &[GroundRow]) {
+    for row in rows {
+        reads.mark(Read::Phrase(row.phrase));
     }
 }
 
 /// Reads the guards and values of cases.
 fn read_cases(reads: &mut Reads, cases: &[GroundCase]) {
     for case in cases {
-        read_guard(reads, &case.guard);
+        read_rows(reads, rows_of(&case.guard));
         read_sum(reads, &case.value);
     }
 }
@@ -124,7 +123,7 @@ fn read_cases(reads: &mut Reads, cases: &[GroundCase]) {
 /// Reads a macro or function.
 fn read_definition(reads: &mut Reads, machine: &Machine<'_>, number: u32) {
     match definition_of(machine, number) {
-        Some(Definition::Macro(table)) => read_table(reads, table),
+        Some(Definition::Macro(table)) => read_rows(reads, table.rows.as_slice()),
         Some(Definition::Function(cases)) => read_cases(reads, cases.as_slice()),
         None => {}
     }
@@ -145,29 +144,14 @@ fn read_phrase(reads: &mut Reads, machine: &Machine<'_>, phrase: &GroundPhrase) 
     }
 }
 
-/// Reads what the phrase of a number names, if it is read.
-fn read_named(reads: &mut Reads, machine: &Machine<'_>, number: u32) {
-    if is_marked(reads.phrases.as_slice(), number) && number < machine.macros().phrases() {
-        read_phrase(reads, machine, machine.macros().phrase(number));
-    }
-}
-
 /// Reads what all phrases name that are read. A phrase names only phrases of lower numbers.
-fn read_all_named(reads: &mut Reads, machine: &Machine<'_>) {
-    let count = machine.macros().phrases();
-    for above in 0..count {
-        read_named(
-            reads,
-            machine,
-            count.saturating_sub(above).saturating_sub(1),
-        );
-    }
-}
-
-/// Reads whether states are active.
-fn read_states(reads: &mut Reads, tree: &Tree<'_>, states: &[u32]) {
-    for state in states {
-        read_state(reads, tree, *state);
+fn read_named(reads: &mut Reads, machine: &Machine<'_>) {
+    let mut number = machine.macros().phrases();
+    for _ in 0..machine.macros().phrases() {
+        number = number.saturating_sub(1);
+        if reads.has(Read::Phrase(number)) && number < machine.macros().phrases() {
+            read_phrase(reads, machine, machine.macros().phrase(number));
+        }
     }
 }
 
@@ -178,25 +162,26 @@ fn read_condition(reads: &mut Reads, machine: &Machine<'_>, group: u32) {
         && let GroupKind::State { state, .. } = groups.kind(group)
     {
         read_state(reads, machine.tree(), state);
-        read_states(reads, machine.tree(), groups.below(group));
-    }
-}
-
-/// Reads the guards of members.
-fn read_guards(reads: &mut Reads, machine: &Machine<'_>, members: &[Member]) {
-    for member in members {
-        if let Some(guard) = guard_of(machine, *member) {
-            read_guard(reads, guard);
+        for below in groups.below(group) {
+            read_state(reads, machine.tree(), *below);
         }
     }
 }
 
-/// What the condition and the members of a group read.
-pub fn reads_of(alloc: Global, machine: &Machine<'_>, group: u32) -> Result<Reads, NoMemory> {
-    let members = members(alloc, machine, group)?;
-    let mut reads = Reads::new(alloc, machine)?;
-    read_condition(&mut reads, machine, group);
-    read_guards(&mut reads, machine, members.as_slice());
-    read_all_named(&mut reads, machine);
-    Ok(reads)
+/// Reads the guards of the members of a group.
+fn read_guards(reads: &mut Reads, machine: &Machine<'_>, group: u32) {
+    for place in 0..member_count(machine, group) {
+        if let Some(member) = member_at(machine, group, place)
+            && let Some(guard) = guard_of(machine, member)
+        {
+            read_rows(reads, rows_of(guard));
+        }
+    }
+}
+
+/// Reads what the condition and the members of a group read.
+pub fn read_group(reads: &mut Reads, machine: &Machine<'_>, group: u32) {
+    read_condition(reads, machine, group);
+    read_guards(reads, machine, group);
+    read_named(reads, machine);
 }

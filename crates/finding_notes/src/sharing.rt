@@ -1,23 +1,10 @@
-//! Members that are written as one, and the groups in which they stand.
+//! Members that are written as one.
 
 use elaborate::Machine;
-use finding_texts::Verdict;
 use ground_groups::Member;
 use ground_members::{SharedSendCase, SharedTransition};
-use rsml_base::NoMemory;
-use rsml_names::transitions_of;
-use std::alloc::Global;
-use written_members::{Scene, members, written_at};
-
-/// How many instances an array has at most.
-const MOST_INSTANCES: u32 = 64;
-
-/// A member, and a group in which it stands.
-#[derive(Clone, Copy)]
-pub struct Standing {
-    pub group: u32,
-    pub member: Member,
-}
+use group_mends::{member_at, member_count};
+use written_members::{Scene, written_at};
 
 /// The place of a member in its component, send or function.
 fn ordinal(machine: &Machine<'_>, member: Member) -> Option<u32> {
@@ -34,94 +21,28 @@ fn ordinal(machine: &Machine<'_>, member: Member) -> Option<u32> {
     }
 }
 
-/// The number of the send or function instance of a member. Instances of one array have numbers that are near.
-fn instance(machine: &Machine<'_>, member: Member) -> Option<u32> {
-    match member {
-        Member::Transition(_) => None,
-        Member::SendCase(number) => {
-            let case = machine.all_send_cases().get(number as usize)?;
-            Some(case.send())
-        }
-        Member::FunctionCase { function, .. } => Some(function),
+/// The member at a place of a group, if it is written as another.
+pub fn alike_at(scene: &Scene<'_, '_>, group: u32, place: u32, member: Member) -> Option<Member> {
+    let machine = scene.machine;
+    let other = member_at(machine, group, place)?;
+    if ordinal(machine, other)? == ordinal(machine, member)?
+        && written_at(scene, other)?.table == written_at(scene, member)?.table
+    {
+        Some(other)
+    } else {
+        None
     }
 }
 
-/// The offset at which the source of a transition is written.
-fn source_at(machine: &Machine<'_>, number: u32) -> Option<usize> {
-    let transition = machine.all_transitions().get(number as usize)?;
-    let component = machine.tree().parent(transition.source())?;
-    let body = machine.tree().states().body(component)?;
-    let place = (transition.ordinal() as usize).saturating_sub(1);
-    let written = transitions_of(body).get(place)?;
-    Some(written.source.at() as usize)
-}
-
-/// The offset at which a member is written.
-fn place_of(scene: &Scene<'_, '_>, member: Member) -> Option<usize> {
-    match member {
-        Member::Transition(number) => source_at(scene.machine, number),
-        Member::SendCase(_) | Member::FunctionCase { .. } => {
-            let at = written_at(scene, member)?;
-            Some(at.table)
+/// How many members of a group are written as another.
+pub fn alike_count(scene: &Scene<'_, '_>, group: u32, member: Member) -> usize {
+    let mut count: usize = 0;
+    for place in 0..member_count(scene.machine, group) {
+        if alike_at(scene, group, place, member).is_some() {
+            count = count.saturating_add(1);
         }
     }
-}
-
-/// Whether the instances of two members may be of one array.
-fn are_near(machine: &Machine<'_>, one: Member, other: Member) -> bool {
-    match (instance(machine, one), instance(machine, other)) {
-        (Some(one), Some(other)) => one.abs_diff(other) < MOST_INSTANCES,
-        (None, None) => true,
-        _ => false,
-    }
-}
-
-/// Whether two members are written as one.
-fn are_one(scene: &Scene<'_, '_>, one: Member, other: Member) -> bool {
-    ordinal(scene.machine, one) == ordinal(scene.machine, other)
-        && are_near(scene.machine, one, other)
-        && place_of(scene, one) == place_of(scene, other)
-}
-
-/// Adds the members of a group that are written as this one.
-fn add_standing(
-    standing: &mut Vec<Standing>,
-    alloc: Global,
-    scene: &Scene<'_, '_>,
-    group: u32,
-    member: Member,
-) -> Result<(), NoMemory> {
-    let members = members(alloc, scene.machine, group)?;
-    for other in members.as_slice() {
-        if are_one(scene, member, *other) {
-            standing.push(Standing {
-                group,
-                member: *other,
-            })?;
-        }
-    }
-    Ok(())
-}
-
-/// Whether a group is sound.
-fn is_sound(verdicts: &[Verdict], group: u32) -> bool {
-    matches!(verdicts.get(group as usize), Some(Verdict::Sound))
-}
-
-/// The members of sound groups that are written as this one.
-pub fn standing_in_sound(
-    alloc: Global,
-    scene: &Scene<'_, '_>,
-    verdicts: &[Verdict],
-    member: Member,
-) -> Result<Vec<Standing>, NoMemory> {
-    let mut standing = Vec::new(alloc);
-    for group in 0..scene.machine.groups().count() {
-        if is_sound(verdicts, group) {
-            add_standing(&mut standing, alloc, scene, group, member)?;
-        }
-    }
-    Ok(standing)
+    count
 }
 
 /// The transition of a component at this place.

@@ -1,86 +1,140 @@
-ghost use Rattle.std.specs.Prelude.{◌≡◌, IfOk};
-ghost use Rattle.source_notes.specs.Comments.{AreComments};
-
-use crate::chains::chains_of;
-use crate::finding::tell_finding;
-use chain_notes::{tell_clashes, tell_loops};
-use elaborate::Machine;
-use event_chains::Chains;
+use crate::drawing::tell_member;
+use crate::finding::Finding;
+use crate::heads::tell_head;
+use crate::holdings::tell_world;
+use crate::mending::tell_mends;
+use crate::reads::{Reads, read_group};
+use crate::shown::{first_two, next, shown_count};
+use crate::truths::{filled, is_world};
 use finding_texts::Verdict;
 use guard_encode::Encoder;
-use instance_texts::Texts;
 use rsml_base::NoMemory;
-use rsml_names::Globals;
-use rsml_syntax::Checked;
-use source_notes::Notes;
-use std::alloc::Global;
-use written_members::{Scene, Source};
+use rsml_syntax::World;
+use source_notes::{Notes, Piece};
+use written_members::Scene;
 
-/// Whether some group is not sound.
-fn has_findings(verdicts: &[Verdict]) -> bool {
-    for verdict in verdicts {
-        if !matches!(verdict, Verdict::Sound) {
-            return true;
-        }
-    }
-    false
-}
+/// How many members of a group are drawn at most.
+const MOST_DRAWN: usize = 8;
 
-/// Tells what is found of each group.
-fn tell_findings(
+/// Tells what the condition and the members of a group read of the world.
+fn tell_read(
     notes: &mut Notes<'_>,
     scene: &Scene<'_, '_>,
-    verdicts: &[Verdict],
+    finding: Finding<'_>,
 ) -> Result<(), NoMemory> {
-    if !has_findings(verdicts) {
-        return Ok(());
-    }
-    let mut encoder = Encoder::new(notes.alloc(), scene.machine)?;
-    let mut group: u32 = 0;
-    for verdict in verdicts {
-        tell_finding(notes, scene, &mut encoder, verdicts, group, verdict)?;
-        group = group.saturating_add(1);
+    let mut reads = Reads::new(notes.alloc(), scene.machine)?;
+    read_group(&mut reads, scene.machine, finding.group);
+    tell_world(notes, scene, &reads, finding.world)
+}
+
+/// Tells the first members that are shown.
+fn tell_first(
+    notes: &mut Notes<'_>,
+    scene: &Scene<'_, '_>,
+    finding: Finding<'_>,
+) -> Result<(), NoMemory> {
+    let mut last = None;
+    for _ in 0..MOST_DRAWN {
+        let Some(ranked) = next(scene.machine, finding, last) else {
+            break;
+        };
+        tell_member(notes, scene, ranked.member, finding.truths)?;
+        last = Some(ranked);
     }
     Ok(())
 }
 
-/// Tells the events that loop, and those that clash.
-fn tell_chains(
+/// Tells the first members that are shown, of so many, and how many more there are.
+fn tell_members(
     notes: &mut Notes<'_>,
     scene: &Scene<'_, '_>,
-    chains: &Chains<'_>,
+    finding: Finding<'_>,
+    count: usize,
 ) -> Result<(), NoMemory> {
-    tell_loops(notes, scene, chains.loops())?;
-    tell_clashes(notes, scene, chains.clashes())
+    tell_first(notes, scene, finding)?;
+    if count > MOST_DRAWN {
+        let rest = count.saturating_sub(MOST_DRAWN);
+        notes.say_one("and {} more", Piece::Count(rest));
+    }
+    Ok(())
 }
 
-/// Comment lines on the machine of a specification that was read from this text, in a file of this name: on the events that loop,
-/// on those that clash, and on what is found of each group that is not sound. Out of memory is the only error.
-pub fn finding_notes(
-    alloc: Global,
-    file: &[u8],
-    text: &[u8],
-    checked: &Checked,
-    machine: &Machine<'_>,
+/// Tells rows that mend a group, where two members are enabled.
+fn tell_mended(
+    notes: &mut Notes<'_>,
+    scene: &Scene<'_, '_>,
+    encoder: &mut Encoder<'_, '_>,
+    finding: Finding<'_>,
+) -> Result<(), NoMemory> {
+    match first_two(scene.machine, finding) {
+        Some((one, two)) => tell_mends(notes, scene, encoder, finding, one, two),
+        None => Ok(()),
+    }
+}
+
+/// Tells what is found of a group.
+fn tell_finding(
+    notes: &mut Notes<'_>,
+    scene: &Scene<'_, '_>,
+    encoder: &mut Encoder<'_, '_>,
+    finding: Finding<'_>,
+) -> Result<(), NoMemory> {
+    let count = shown_count(scene.machine, finding);
+    tell_head(notes, scene, finding, count);
+    tell_read(notes, scene, finding)?;
+    tell_members(notes, scene, finding, count)?;
+    if finding.is_double && count == 2 {
+        tell_mended(notes, scene, encoder, finding)?;
+    }
+    Ok(())
+}
+
+/// The world in which a group is not sound.
+fn world_of(verdict: &Verdict) -> Option<&World> {
+    match verdict {
+        Verdict::Sound => None,
+        Verdict::Missing(world) => Some(world),
+        Verdict::Double(world) => Some(world),
+    }
+}
+
+/// Tells what is found of a group by its verdict, if the world of this is one of the specification.
+fn tell_verdict(
+    notes: &mut Notes<'_>,
+    scene: &Scene<'_, '_>,
+    encoder: &mut Encoder<'_, '_>,
     verdicts: &[Verdict],
-) -> Result<Vec<u8>, NoMemory>
-    requires machine { machine.now.base.spec ≡ checked.now }
-    ensures { IfOk result (λ v. AreComments v.items) }
-{
-    let decls = checked.spec().decls.as_slice();
-    let globals = Globals::new(alloc, decls)?;
-    let texts = Texts::build(alloc, checked)?;
-    let source = Source::new(alloc, file, text)?;
-    let scene = Scene {
-        machine,
-        texts: &texts,
-        globals: &globals,
-        decls,
-        source: &source,
+    group: u32,
+    verdict: &Verdict,
+) -> Result<(), NoMemory> {
+    let Some(world) = world_of(verdict) else {
+        return Ok(());
     };
-    let chains = chains_of(alloc, checked, machine)?;
-    let mut notes = Notes::new(alloc, file, text);
-    tell_chains(&mut notes, &scene, &chains)?;
-    tell_findings(&mut notes, &scene, verdicts)?;
-    notes.bytes()
+    if !is_world(scene.machine, world) {
+        return Ok(());
+    }
+    let truths = filled(notes.alloc(), scene.machine, world)?;
+    let finding = Finding {
+        group,
+        is_double: matches!(verdict, Verdict::Double(_)),
+        world,
+        truths: &truths,
+        verdicts,
+    };
+    tell_finding(notes, scene, encoder, finding)
+}
+
+/// Tells what is found of each group that is not sound, by the verdicts on all groups in order.
+pub fn tell_findings(
+    notes: &mut Notes<'_>,
+    scene: &Scene<'_, '_>,
+    encoder: &mut Encoder<'_, '_>,
+    verdicts: &[Verdict],
+) -> Result<(), NoMemory> {
+    let mut group: u32 = 0;
+    for verdict in verdicts {
+        tell_verdict(notes, scene, encoder, verdicts, group, verdict)?;
+        group = group.saturating_add(1);
+    }
+    Ok(())
 }

@@ -4,8 +4,8 @@ ghost use Rattle.bdd_core.specs.Diagram.{IsRef};
 ghost use Rattle.rsml_meaning.specs.Groups.{groups};
 ghost use Rattle.guard_encode.specs.Encoding.{Keeps};
 
-use crate::diagrams::{Added, guard, whole_column};
-use and_or_tables::GroundRow;
+use crate::diagrams::{Added, columns, whole_column};
+use crate::members::{member_at, member_count};
 use bdd_core::Ref;
 use ground_groups::Member;
 use guard_encode::Encoder;
@@ -16,9 +16,9 @@ use written_members::guard_of;
 
 /// A member, and the row that is added to its table.
 #[derive(Clone, Copy)]
-pub struct Change<'c> {
+pub struct Change<'t> {
     pub member: Member,
-    pub added: Added<'c>,
+    pub added: Added<'t>,
 }
 
 /// Where one of members or more is enabled, and where two or more are.
@@ -29,7 +29,7 @@ struct Counted {
 }
 
 /// The row that is added to the table of a member.
-fn added_to<'c>(change: Change<'c>, member: Member) -> Option<Added<'c>> {
+fn added_to<'t>(change: Change<'t>, member: Member) -> Option<Added<'t>> {
     if change.member == member {
         Some(change.added)
     } else {
@@ -50,7 +50,13 @@ fn enabled(
 {
     let machine = encoder.machine();
     match guard_of(machine, member) {
-        Some(found) => guard(alloc, encoder, found, added_to(change, member)),
+        Some(GroundGuard::Always) => Ok(encoder.constant(true)),
+        Some(GroundGuard::Table(table)) => columns(
+            alloc,
+            encoder,
+            table.rows.as_slice(),
+            added_to(change, member),
+        ),
         None => Ok(encoder.constant(false)),
     }
 }
@@ -74,65 +80,47 @@ fn counted_more(
     Ok(Counted { some, two })
 }
 
-/// How many of members are enabled after a change.
+/// How many members of a group are enabled after a change.
 #[tactic(auto, using(crate::proofs::Keeping::no_calls, crate::proofs::Keeping::two_calls))]
 fn count_enabled(
     alloc: Global,
     encoder: &mut Encoder<'_, '_>,
-    members: &[Member],
+    group: u32,
     change: Change<'_>,
 ) -> Result<Counted, NoMemory>
     ensures keeps { Keeps encoder.old encoder.new }
     ensures some { IfOk result (λ x. IsRef encoder.new.diagram x.some) }
     ensures two { IfOk result (λ x. IsRef encoder.new.diagram x.two) }
 {
+    let machine = encoder.machine();
     let none = encoder.constant(false);
     let mut counted = Counted {
         some: none,
         two: none,
     };
-    for member in members {
-        let enabled = enabled(alloc, encoder, *member, change)?;
-        counted = counted_more(encoder, counted, enabled)?;
+    for place in 0..member_count(machine, group) {
+        if let Some(member) = member_at(machine, group, place) {
+            let enabled = enabled(alloc, encoder, member, change)?;
+            counted = counted_more(encoder, counted, enabled)?;
+        }
     }
     Ok(counted)
 }
 
-/// Whether two functions are true together in no world.
+/// Where not exactly one member of a group is enabled after a change.
 #[tactic(auto, using(crate::proofs::Keeping::no_calls, crate::proofs::Keeping::two_calls))]
-fn exclude(
+fn not_one(
     alloc: Global,
     encoder: &mut Encoder<'_, '_>,
-    one: Ref,
-    other: Ref,
-) -> Result<bool, NoMemory>
-    requires one { IsRef encoder.old.diagram one }
-    requires other { IsRef encoder.old.diagram other }
+    group: u32,
+    change: Change<'_>,
+) -> Result<Ref, NoMemory>
     ensures keeps { Keeps encoder.old encoder.new }
+    ensures is_ref { IfOk result (IsRef encoder.new.diagram) }
 {
-    let both = encoder.and(one, other)?;
-    let decided = encoder.decided(alloc, both)?;
-    Ok(encoder.is_false(decided))
-}
-
-/// Whether exactly one of members is enabled wherever a condition holds.
-#[tactic(auto, using(crate::proofs::Keeping::no_calls, crate::proofs::Keeping::two_calls))]
-fn is_one(
-    alloc: Global,
-    encoder: &mut Encoder<'_, '_>,
-    condition: Ref,
-    counted: Counted,
-) -> Result<bool, NoMemory>
-    requires condition { IsRef encoder.old.diagram condition }
-    requires some { IsRef encoder.old.diagram counted.some }
-    requires two { IsRef encoder.old.diagram counted.two }
-    ensures keeps { Keeps encoder.old encoder.new }
-{
-    if !exclude(alloc, encoder, condition, counted.two)? {
-        return Ok(false);
-    }
+    let counted = count_enabled(alloc, encoder, group, change)?;
     let none = encoder.not(counted.some)?;
-    exclude(alloc, encoder, condition, none)
+    encoder.or(counted.two, none)
 }
 
 /// Where the condition of a group holds: nowhere, where there is no such group.
@@ -147,75 +135,66 @@ fn condition(encoder: &mut Encoder<'_, '_>, group: u32) -> Result<Ref, NoMemory>
     encoder.condition(group)
 }
 
-/// Whether a group of these members would be sound after a change.
+/// Whether something is true in no world in which the condition of a group holds.
+#[tactic(auto, using(crate::proofs::Keeping::no_calls, crate::proofs::Keeping::two_calls))]
+fn is_nowhere(
+    alloc: Global,
+    encoder: &mut Encoder<'_, '_>,
+    group: u32,
+    told: Ref,
+) -> Result<bool, NoMemory>
+    requires { IsRef encoder.old.diagram told }
+    ensures keeps { Keeps encoder.old encoder.new }
+{
+    let condition = condition(encoder, group)?;
+    let both = encoder.and(condition, told)?;
+    let decided = encoder.decided(alloc, both)?;
+    Ok(encoder.is_false(decided))
+}
+
+/// Whether a group would be sound after a change.
 #[tactic(auto, using(crate::proofs::Keeping::no_calls, crate::proofs::Keeping::two_calls))]
 pub fn is_sound_with(
     alloc: Global,
     encoder: &mut Encoder<'_, '_>,
     group: u32,
-    members: &[Member],
     change: Change<'_>,
 ) -> Result<bool, NoMemory>
     ensures keeps { Keeps encoder.old encoder.new }
 {
-    let counted = count_enabled(alloc, encoder, members, change)?;
-    let condition = condition(encoder, group)?;
-    is_one(alloc, encoder, condition, counted)
+    let told = not_one(alloc, encoder, group, change)?;
+    is_nowhere(alloc, encoder, group, told)
 }
 
-/// Whether a column, from 1, of these rows and an added row is true somewhere in a group.
+/// Whether a column with the cell of an added row is true nowhere in a group.
 #[tactic(auto, using(crate::proofs::Keeping::no_calls, crate::proofs::Keeping::two_calls))]
-fn column_stays(
+fn is_lost(
     alloc: Global,
     encoder: &mut Encoder<'_, '_>,
     group: u32,
-    rows: &[GroundRow],
     added: Added<'_>,
-    number: usize,
+    place: usize,
 ) -> Result<bool, NoMemory>
     ensures keeps { Keeps encoder.old encoder.new }
 {
-    let told = whole_column(alloc, encoder, rows, Some(added), number.saturating_sub(1))?;
-    let condition = condition(encoder, group)?;
-    let none = exclude(alloc, encoder, condition, told)?;
-    Ok(!none)
+    let told = whole_column(alloc, encoder, added.table.rows, Some(added), place)?;
+    is_nowhere(alloc, encoder, group, told)
 }
 
-/// Whether each of some columns of a table stays true somewhere in a group, with a row that is added to them.
-#[tactic(auto, using(crate::proofs::Keeping::no_calls, crate::proofs::Keeping::two_calls))]
-fn columns_of_table_stay(
-    alloc: Global,
-    encoder: &mut Encoder<'_, '_>,
-    group: u32,
-    rows: &[GroundRow],
-    added: Added<'_>,
-) -> Result<bool, NoMemory>
-    ensures keeps { Keeps encoder.old encoder.new }
-{
-    let mut stay = true;
-    for number in added.columns {
-        if !column_stays(alloc, encoder, group, rows, added, *number)? {
-            stay = false;
-        }
-    }
-    Ok(stay)
-}
-
-/// Whether each column that a change reaches would be true in some world in which the condition of the group holds.
+/// Whether each column that a row reaches, added to its table, would be true in some world in which the condition of a group holds.
 #[tactic(auto, using(crate::proofs::Keeping::no_calls, crate::proofs::Keeping::two_calls))]
 pub fn columns_stay(
     alloc: Global,
     encoder: &mut Encoder<'_, '_>,
     group: u32,
-    change: Change<'_>,
+    added: Added<'_>,
 ) -> Result<bool, NoMemory>
     ensures keeps { Keeps encoder.old encoder.new }
 {
-    let machine = encoder.machine();
-    match guard_of(machine, change.member) {
-        Some(GroundGuard::Table(table)) => {
-            columns_of_table_stay(alloc, encoder, group, table.rows.as_slice(), change.added)
+    for place in 0..added.table.width() {
+        if added.table.holds(place) && is_lost(alloc, encoder, group, added, place)? {
+            return Ok(false);
         }
-        _ => Ok(false),
     }
+    Ok(true)
 }

@@ -1,37 +1,44 @@
 //! S15: cases of functions and of sends, and what functions are compared with.
 
-use crate::kind_faults::{kind_name, kind_words, point_at_sum, tell_mention, tell_sum};
+use crate::kind_faults::{kind_name, kind_words, tell_sum};
 use crate::kinds::{Kind, are_alike, is_unknown, sum_kind};
-use crate::row_places::mention_in;
-use crate::subject::{Subject, point_at, tell_list};
-use rsml_base::{NoMemory, Text};
-use rsml_names::Globals;
-use rsml_syntax::{Answer, Case, Decl, Mention, Operand, Row, SendCase, Simple, Sum, Term};
-use source_notes::{Notes, Piece};
-use source_survey::simple_in;
+use crate::lists::tell_list;
+use crate::spots::spot_of_sum;
+use crate::subject::Subject;
+use rsml_base::Text;
+use rsml_names::{Globals, simple_of};
+use rsml_syntax::{Answer, Case, Decl, Operand, Row, SendCase, Simple, Sum};
+use source_notes::{Notes, Piece, Spot, spot_of};
 
-/// Whether an operand is an input, or a previous one.
-fn is_variable(globals: &Globals<'_>, term: &Term) -> bool {
-    match &term.operand {
-        Operand::Number(_) => false,
-        Operand::Previous(_) => true,
-        Operand::Mention(mention) => match globals.meaning(&mention.name) {
-            Some(known) => matches!(known.decl, Decl::Input { .. }),
-            None => false,
-        },
+fn is_input(globals: &Globals<'_>, name: &Text) -> bool {
+    match globals.meaning(name) {
+        Some(known) => matches!(known.decl, Decl::Input { .. }),
+        None => false,
     }
 }
 
-/// The input in a sum.
-fn input_in<'a>(globals: &Globals<'_>, sum: &'a Sum) -> Option<&'a Mention> {
-    let terms = sum.terms.as_slice();
-    let term = terms.iter().find(|term| is_variable(globals, term))?;
-    mention_in(term)
+/// The name of an operand that is an input, or a previous one.
+fn input_of<'a>(globals: &Globals<'_>, operand: &'a Operand) -> Option<&'a Text> {
+    match operand {
+        Operand::Previous(mention) => Some(&mention.name),
+        Operand::Mention(mention) if is_input(globals, &mention.name) => Some(&mention.name),
+        _ => None,
+    }
 }
 
-/// The input in the sum of a row that compares the shown function with one.
-fn input_in_row<'a>(subject: &Subject<'a, '_>, row: &'a Row) -> Option<&'a Mention> {
-    match simple_in(row) {
+/// The first input in a sum.
+fn input_in<'a>(globals: &Globals<'_>, sum: &'a Sum) -> Option<&'a Text> {
+    for term in sum.terms.as_slice() {
+        if let Some(name) = input_of(globals, &term.operand) {
+            return Some(name);
+        }
+    }
+    None
+}
+
+/// The input in the sum of a phrase that compares the shown function with one.
+fn input_in_simple<'a>(subject: &Subject<'a, '_>, simple: &'a Simple) -> Option<&'a Text> {
+    match simple {
         Simple::Function {
             function,
             right,
@@ -41,162 +48,165 @@ fn input_in_row<'a>(subject: &Subject<'a, '_>, row: &'a Row) -> Option<&'a Menti
     }
 }
 
+fn input_among<'a>(subject: &Subject<'a, '_>, rows: &'a [Row]) -> Option<&'a Text> {
+    for row in rows {
+        if let Some(name) = input_in_simple(subject, simple_of(&row.phrase)) {
+            return Some(name);
+        }
+    }
+    None
+}
+
 /// The first input with which the shown function is compared.
-fn compared_with<'a>(subject: &Subject<'a, '_>) -> Option<&'a Mention> {
+fn compared_with<'a>(subject: &Subject<'a, '_>) -> Option<&'a Text> {
     for table in subject.survey.tables.as_slice() {
-        for row in table.rows {
-            if let Some(mention) = input_in_row(subject, row) {
-                return Some(mention);
-            }
+        if let Some(name) = input_among(subject, table.rows) {
+            return Some(name);
         }
     }
     None
 }
 
 /// A function that is compared with an input.
-fn not_constant(notes: &mut Notes<'_>, subject: &Subject<'_, '_>) -> Result<(), NoMemory> {
-    let mention = match compared_with(subject) {
-        Some(mention) => mention,
-        None => return Ok(()),
-    };
-    point_at(
-        notes,
-        subject.name,
-        &[
-            Piece::Words("the function "),
+fn not_constant(notes: &mut Notes<'_>, subject: &Subject<'_, '_>) {
+    if let Some(input) = compared_with(subject) {
+        notes.fault(
+            spot_of(subject.name),
+            "the function {} is compared with a sum that is not constant",
             Piece::Name(subject.name),
-            Piece::Words(" is compared with a sum that is not constant"),
-        ],
-    )?;
-    tell_mention(notes, subject.globals, mention)
+            Piece::Nothing,
+        );
+        subject.tell_meaning(notes, input);
+    }
+}
+
+/// A case of another kind than the first one.
+#[derive(Clone, Copy)]
+struct Unlike<'a> {
+    value: &'a Sum,
+    kind: Kind<'a>,
+    first: Kind<'a>,
+}
+
+fn are_unlike(first: Kind<'_>, kind: Kind<'_>) -> bool {
+    !is_unknown(first) && !is_unknown(kind) && !are_alike(first, kind)
 }
 
 /// The first case of another kind than the first one.
-fn unlike_case<'a>(
-    globals: &Globals<'a>,
-    cases: &'a [Case],
-) -> Option<(&'a Case, Kind<'a>, Kind<'a>)> {
-    let (first, rest) = cases.split_first()?;
-    let kind = sum_kind(globals, &first.value);
+fn unlike_case<'a>(globals: &Globals<'a>, cases: &'a [Case]) -> Option<Unlike<'a>> {
+    let (case, rest) = cases.split_first()?;
+    let first = sum_kind(globals, &case.value);
     for case in rest {
-        let other = sum_kind(globals, &case.value);
-        let are_known = !is_unknown(kind) && !is_unknown(other);
-        if are_known && !are_alike(kind, other) {
-            return Some((case, kind, other));
+        let kind = sum_kind(globals, &case.value);
+        if are_unlike(first, kind) {
+            return Some(Unlike {
+                value: &case.value,
+                kind,
+                first,
+            });
         }
     }
     None
 }
 
-/// Whether the cases behind the first one are two at least, and all of one kind.
-fn are_others_alike(globals: &Globals<'_>, cases: &[Case]) -> bool {
-    match cases.split_first() {
-        Some((_, rest)) => rest.len() > 1 && unlike_case(globals, rest).is_none(),
-        None => false,
+/// A first case of another kind than all others.
+fn wrong_first<'a>(notes: &mut Notes<'_>, spot: Spot, function: &'a Text, unlike: &Unlike<'a>) {
+    match unlike.first {
+        Kind::Values(name) => notes.fault_four(
+            spot,
+            "the value of the first case of {} is a value of the enumeration {}; that of all others is {}{}",
+            Piece::Name(function),
+            Piece::Name(name),
+            kind_words(unlike.kind),
+            kind_name(unlike.kind),
+        ),
+        first => notes.fault_four(
+            spot,
+            "the value of the first case of {} is {}; that of all others is {}{}",
+            Piece::Name(function),
+            kind_words(first),
+            kind_words(unlike.kind),
+            kind_name(unlike.kind),
+        ),
     }
 }
 
-/// A first case of another kind than all others.
-fn wrong_first<'x>(
-    notes: &mut Notes<'_>,
-    subject: &Subject<'x, 'x>,
-    value: &Sum,
-    first: Kind<'x>,
-    other: Kind<'x>,
-) -> Result<(), NoMemory> {
-    point_at_sum(
-        notes,
-        subject.name,
-        value,
-        &[
-            Piece::Words("the value of the first case of "),
-            Piece::Name(subject.name),
-            Piece::Words(" is "),
-            kind_words(first),
-            kind_name(first),
-            Piece::Words("; that of all others is "),
-            kind_words(other),
-            kind_name(other),
-        ],
-    )?;
-    tell_sum(notes, subject.globals, value)
+/// A later case of another kind than the first one.
+fn wrong_later<'a>(notes: &mut Notes<'_>, spot: Spot, function: &'a Text, unlike: &Unlike<'a>) {
+    match unlike.kind {
+        Kind::Values(name) => notes.fault_four(
+            spot,
+            "the value of this case is a value of the enumeration {}; that of the first case of {} is {}{}",
+            Piece::Name(name),
+            Piece::Name(function),
+            kind_words(unlike.first),
+            kind_name(unlike.first),
+        ),
+        kind => notes.fault_four(
+            spot,
+            "the value of this case is {}; that of the first case of {} is {}{}",
+            kind_words(kind),
+            Piece::Name(function),
+            kind_words(unlike.first),
+            kind_name(unlike.first),
+        ),
+    }
 }
 
-/// A case of another kind than the first one.
-fn wrong_later<'x>(
+/// Tells cases of unlike kinds: the first one is shown where all others, two at least, are of one kind.
+fn tell_unlike<'a>(
     notes: &mut Notes<'_>,
-    subject: &Subject<'x, 'x>,
-    value: &Sum,
-    first: Kind<'x>,
-    other: Kind<'x>,
-) -> Result<(), NoMemory> {
-    point_at_sum(
-        notes,
-        subject.name,
-        value,
-        &[
-            Piece::Words("the value of this case is "),
-            kind_words(other),
-            kind_name(other),
-            Piece::Words("; that of the first case of "),
-            Piece::Name(subject.name),
-            Piece::Words(" is "),
-            kind_words(first),
-            kind_name(first),
-        ],
-    )?;
-    tell_sum(notes, subject.globals, value)
-}
-
-/// A function without cases.
-fn no_case(notes: &mut Notes<'_>, subject: &Subject<'_, '_>) -> Result<(), NoMemory> {
-    point_at(
-        notes,
-        subject.name,
-        &[
-            Piece::Words("the function "),
-            Piece::Name(subject.name),
-            Piece::Words(" has no case"),
-        ],
-    )
+    subject: &Subject<'a, '_>,
+    first: &'a Sum,
+    others: &'a [Case],
+    unlike: &Unlike<'a>,
+) {
+    let name = subject.name;
+    if others.len() > 1 && unlike_case(subject.globals, others).is_none() {
+        wrong_first(notes, spot_of_sum(name, first), name, unlike);
+        tell_sum(notes, subject, first);
+    } else {
+        wrong_later(notes, spot_of_sum(name, unlike.value), name, unlike);
+        tell_sum(notes, subject, unlike.value);
+    }
 }
 
 /// A function without cases, or with unlike ones.
-fn wrong_cases(
-    notes: &mut Notes<'_>,
-    subject: &Subject<'_, '_>,
-    cases: &[Case],
-) -> Result<(), NoMemory> {
-    let odd = match cases.first() {
-        Some(odd) => odd,
-        None => return no_case(notes, subject),
-    };
-    match unlike_case(subject.globals, cases) {
-        Some((_, first, other)) if are_others_alike(subject.globals, cases) => {
-            wrong_first(notes, &*subject, &odd.value, first, other)
+fn wrong_cases<'a>(notes: &mut Notes<'_>, subject: &Subject<'a, '_>, cases: &'a [Case]) {
+    let unlike = unlike_case(subject.globals, cases);
+    match (cases.split_first(), unlike) {
+        (Some((first, others)), Some(unlike)) => {
+            tell_unlike(notes, subject, &first.value, others, &unlike);
         }
-        Some((case, first, other)) => wrong_later(notes, &*subject, &case.value, first, other),
-        None => Ok(()),
+        (None, _) => notes.fault(
+            spot_of(subject.name),
+            "the function {} has no case",
+            Piece::Name(subject.name),
+            Piece::Nothing,
+        ),
+        _ => {}
     }
 }
 
-/// A case of a send that gives another number of values than there are fields.
+/// The first case of a send that gives another number of values than there are fields, and this number.
 fn wrong_answer(cases: &[SendCase], fields: usize) -> Option<(&SendCase, usize)> {
     for case in cases {
-        match &case.answer {
-            Answer::Quiet => {}
-            Answer::Values(values) => {
-                if values.len() != fields {
-                    return Some((case, values.len()));
-                }
+        if let Answer::Values(values) = &case.answer {
+            if values.len() != fields {
+                return Some((case, values.len()));
             }
         }
     }
     None
 }
 
-fn plural(count: usize, one: &'static str, many: &'static str) -> &'static str {
-    if count == 1 { one } else { many }
+/// The sentence on so many values for another number of fields.
+fn answer_form(values: usize, fields: usize) -> &'static str {
+    match (values, fields) {
+        (1, _) => "this case of {} gives {} value, but the send has {} fields",
+        (_, 1) => "this case of {} gives {} values, but the send has {} field",
+        _ => "this case of {} gives {} values, but the send has {} fields",
+    }
 }
 
 /// A send with such a case.
@@ -205,34 +215,26 @@ fn wrong_answers(
     subject: &Subject<'_, '_>,
     fields: &[Text],
     cases: &[SendCase],
-) -> Result<(), NoMemory> {
-    let (case, count) = match wrong_answer(cases, fields.len()) {
-        Some(found) => found,
-        None => return Ok(()),
-    };
-    point_at(
-        notes,
-        &case.trigger.name,
-        &[
-            Piece::Words("this case of "),
+) {
+    if let Some((case, count)) = wrong_answer(cases, fields.len()) {
+        notes.fault_four(
+            spot_of(&case.trigger.name),
+            answer_form(count, fields.len()),
             Piece::Name(subject.name),
-            Piece::Words(" gives "),
             Piece::Count(count),
-            Piece::Words(plural(count, " value", " values")),
-            Piece::Words(", but the send has "),
             Piece::Count(fields.len()),
-            Piece::Words(plural(fields.len(), " field", " fields")),
-        ],
-    )?;
-    tell_list(notes, "its fields are ", fields)
+            Piece::Nothing,
+        );
+        tell_list(notes, "  its fields are ", fields);
+    }
 }
 
 /// S15.
-pub fn wrong_function(notes: &mut Notes<'_>, subject: &Subject<'_, '_>) -> Result<(), NoMemory> {
+pub fn wrong_function(notes: &mut Notes<'_>, subject: &Subject<'_, '_>) {
     match subject.declaration() {
         Some(Decl::Function { cases, .. }) => wrong_cases(notes, subject, cases.as_slice()),
         Some(Decl::Send { fields, cases, .. }) => {
-            wrong_answers(notes, subject, fields.as_slice(), cases.as_slice())
+            wrong_answers(notes, subject, fields.as_slice(), cases.as_slice());
         }
         _ => not_constant(notes, subject),
     }

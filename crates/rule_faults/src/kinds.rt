@@ -2,7 +2,7 @@
 
 use rsml_base::Text;
 use rsml_names::{Globals, Known};
-use rsml_syntax::{Decl, Mention, Operand, Relation, Simple, Sum};
+use rsml_syntax::{Decl, Mention, Operand, Relation, Simple, Sum, Term};
 
 #[derive(Clone, Copy)]
 pub enum Kind<'a> {
@@ -35,58 +35,54 @@ fn known_kind<'a>(globals: &Globals<'a>, known: &Known<'a>) -> Kind<'a> {
     }
 }
 
-fn mention_kind<'a>(globals: &Globals<'a>, mention: &Mention) -> Kind<'a> {
-    match globals.meaning(&mention.name) {
-        Some(known) => known_kind(globals, known),
-        None => Kind::Unknown,
-    }
-}
-
 /// The kind of what stands behind `previous`, where it is an input.
-fn previous_kind<'a>(globals: &Globals<'a>, mention: &Mention) -> Kind<'a> {
-    match globals.meaning(&mention.name) {
-        Some(known) => match known.decl {
-            Decl::Input { .. } => known_kind(globals, known),
-            _ => Kind::Unknown,
-        },
-        None => Kind::Unknown,
+fn input_kind<'a>(globals: &Globals<'a>, known: &Known<'a>) -> Kind<'a> {
+    match known.decl {
+        Decl::Input { .. } => known_kind(globals, known),
+        _ => Kind::Unknown,
     }
 }
 
 fn operand_kind<'a>(globals: &Globals<'a>, operand: &Operand) -> Kind<'a> {
-    match operand {
-        Operand::Number(_) => Kind::Numbers,
-        Operand::Mention(mention) => mention_kind(globals, mention),
-        Operand::Previous(mention) => previous_kind(globals, mention),
+    let (mention, is_previous) = match operand {
+        Operand::Number(_) => return Kind::Numbers,
+        Operand::Mention(mention) => (mention, false),
+        Operand::Previous(mention) => (mention, true),
+    };
+    match globals.meaning(&mention.name) {
+        Some(known) if is_previous => input_kind(globals, known),
+        Some(known) => known_kind(globals, known),
+        None => Kind::Unknown,
     }
-}
-
-pub fn are_numbers(kind: Kind<'_>) -> bool {
-    matches!(kind, Kind::Numbers)
 }
 
 pub fn is_unknown(kind: Kind<'_>) -> bool {
     matches!(kind, Kind::Unknown)
 }
 
+/// The kind of a sum of several parts.
+fn joint<'a>(left: Kind<'a>, right: Kind<'a>) -> Kind<'a> {
+    match (left, right) {
+        (Kind::Unknown, _) | (_, Kind::Unknown) => Kind::Unknown,
+        (Kind::Numbers, Kind::Numbers) => Kind::Numbers,
+        _ => Kind::Mixed,
+    }
+}
+
+/// The kind of terms of a sum with several or with a minus.
+fn joint_kind<'a>(globals: &Globals<'a>, terms: &[Term]) -> Kind<'a> {
+    let mut kind = Kind::Numbers;
+    for term in terms {
+        kind = joint(kind, operand_kind(globals, &term.operand));
+    }
+    kind
+}
+
 /// The kind of a sum.
 pub fn sum_kind<'a>(globals: &Globals<'a>, sum: &Sum) -> Kind<'a> {
-    let terms = sum.terms.as_slice();
-    if terms
-        .iter()
-        .all(|term| are_numbers(operand_kind(globals, &term.operand)))
-    {
-        return Kind::Numbers;
-    }
-    if terms
-        .iter()
-        .any(|term| is_unknown(operand_kind(globals, &term.operand)))
-    {
-        return Kind::Unknown;
-    }
-    match terms {
+    match sum.terms.as_slice() {
         [term] if !term.minus => operand_kind(globals, &term.operand),
-        _ => Kind::Mixed,
+        terms => joint_kind(globals, terms),
     }
 }
 

@@ -1,16 +1,16 @@
 //! Tells at which names a specification breaks a rule or a limit, and what is wrong there.
 #![tactic(auto)]
 
-mod behind;
 mod case_faults;
 mod kind_faults;
 mod kinds;
 mod letters;
 mod limit_faults;
+mod lists;
 mod naming;
 mod near;
-mod row_places;
 mod sizes;
+mod spots;
 mod state_faults;
 mod subject;
 mod table_faults;

@@ -1,13 +1,16 @@
 //! S1, S2, S3 and S14: names that are declared again, not declared, of the wrong sort, or repeated.
 
-use crate::subject::{
-    Subject, known_name, known_sort, names_in, point_at, tell_known, tell_list, tell_nearest,
-};
-use rsml_base::{NoMemory, Text};
-use rsml_names::{Known, values_of};
-use rsml_syntax::{Mention, Want};
-use source_notes::{Notes, Piece};
+use crate::lists::{tell_list, tell_nearest};
+use crate::near::Search;
+use crate::subject::{Subject, known_name, known_sort, tell_known};
+use rsml_base::Text;
+use rsml_names::{Globals, Known, values_of};
+use rsml_syntax::{Decl, Mention, Want};
+use source_notes::{Notes, Piece, spot_of};
 use source_survey::{Declared, Sort, Space, index_of};
+
+/// How many global names are compared with one that is not declared.
+const MOST_COMPARED: usize = 2000;
 
 /// Whether two names may not be declared both.
 fn disturb(first: &Declared<'_>, second: &Declared<'_>) -> bool {
@@ -15,6 +18,16 @@ fn disturb(first: &Declared<'_>, second: &Declared<'_>) -> bool {
         && first.name.bytes() == second.name.bytes()
         && first.name.at() < second.name.at()
         && (first.sort != Sort::Variable || second.sort != Sort::Variable)
+}
+
+/// What declares the name before.
+fn first_of<'a>(subject: &Subject<'a, '_>, again: &Declared<'a>) -> Option<Declared<'a>> {
+    for first in subject.survey.declared.as_slice() {
+        if disturb(first, again) {
+            return Some(*first);
+        }
+    }
+    None
 }
 
 /// Of which space names are to be different.
@@ -28,31 +41,25 @@ fn space_words(space: Space) -> &'static str {
     }
 }
 
+fn tell_again(notes: &mut Notes<'_>, first: &Declared<'_>, again: &Declared<'_>) {
+    notes.fault_four(
+        spot_of(again.name),
+        "{} is declared again, as {}; the first time at {}, as {}",
+        Piece::Name(again.name),
+        Piece::Words(again.sort.words()),
+        Piece::Place(first.name.at()),
+        Piece::Words(first.sort.words()),
+    );
+    notes.say(space_words(again.space));
+}
+
 /// S1.
-pub fn declared_again(notes: &mut Notes<'_>, subject: &Subject<'_, '_>) -> Result<(), NoMemory> {
-    let again = match subject.declared() {
-        Some(again) => again,
-        None => return Ok(()),
-    };
-    let all = subject.survey.declared.as_slice();
-    let first = match all.iter().find(|first| disturb(first, &again)) {
-        Some(first) => first,
-        None => return Ok(()),
-    };
-    point_at(
-        notes,
-        subject.name,
-        &[
-            Piece::Name(subject.name),
-            Piece::Words(" is declared again, as "),
-            Piece::Words(again.sort.words()),
-            Piece::Words("; the first time at "),
-            Piece::Place(first.name.at()),
-            Piece::Words(", as "),
-            Piece::Words(first.sort.words()),
-        ],
-    )?;
-    notes.say(&[Piece::Words(space_words(again.space))])
+pub fn declared_again(notes: &mut Notes<'_>, subject: &Subject<'_, '_>) {
+    if let Some(again) = subject.declared() {
+        if let Some(first) = first_of(subject, &again) {
+            tell_again(notes, &first, &again);
+        }
+    }
 }
 
 /// What must stand at a place.
@@ -71,78 +78,67 @@ fn wanted(want: Want) -> &'static str {
 
 /// The state of this name that is declared first.
 fn state_named<'a>(subject: &Subject<'a, '_>) -> Option<&'a Text> {
-    let states = subject.survey.states.as_slice();
-    let name = subject.name;
-    match states
-        .iter()
-        .find(|state| state.name.bytes() == name.bytes())
-    {
-        Some(state) => Some(state.name),
-        None => None,
+    for state in subject.survey.states.as_slice() {
+        if state.name.bytes() == subject.name.bytes() {
+            return Some(state.name);
+        }
     }
+    None
+}
+
+/// The global name that is most like one.
+fn nearest_global<'a>(globals: &Globals<'a>, name: &'a Text) -> Option<&'a Text> {
+    let mut search = Search::new(name);
+    for known in globals.all().iter().take(MOST_COMPARED) {
+        search.compare(known_name(known));
+    }
+    search.best
 }
 
 /// A name that is not declared at all.
-fn not_declared(
-    notes: &mut Notes<'_>,
-    subject: &Subject<'_, '_>,
-    want: Want,
-) -> Result<(), NoMemory> {
+fn not_declared(notes: &mut Notes<'_>, subject: &Subject<'_, '_>, want: Want) {
     let name = subject.name;
-    point_at(
-        notes,
-        name,
-        &[
-            Piece::Name(name),
-            Piece::Words(" is not declared; "),
-            Piece::Words(wanted(want)),
-        ],
-    )?;
-    let names = names_in(notes.alloc(), subject.survey, Space::Global)?;
-    let told = tell_nearest(notes, name, names.as_slice())?;
+    notes.fault(
+        spot_of(name),
+        "{} is not declared; {}",
+        Piece::Name(name),
+        Piece::Words(wanted(want)),
+    );
+    let is_told = tell_nearest(notes, name, nearest_global(subject.globals, name));
     match state_named(subject) {
-        Some(state) if !told => notes.say(&[
+        Some(state) if !is_told => notes.say_two(
+            "{} is a state, declared at {}; a state is asked for by `in` and its path from the top",
             Piece::Name(name),
-            Piece::Words(" is a state, declared at "),
             Piece::Place(state.at()),
-            Piece::Words("; a state is asked for by `in` and its path from the top"),
-        ]),
-        _ => Ok(()),
+        ),
+        _ => {}
     }
 }
 
 /// A macro or a function that is used too early.
-fn too_early(
-    notes: &mut Notes<'_>,
-    subject: &Subject<'_, '_>,
-    known: &Known<'_>,
-) -> Result<(), NoMemory> {
-    let first = known_name(known);
-    let words = if first.at() < subject.name.at() {
-        " is used inside its own declaration, at "
+fn too_early(notes: &mut Notes<'_>, name: &Text, first: &Text) {
+    let form = if first.at() < name.at() {
+        "{} is used inside its own declaration, at {}"
     } else {
-        " is declared later, at "
+        "{} is declared later, at {}"
     };
-    point_at(
-        notes,
-        subject.name,
-        &[
-            Piece::Name(subject.name),
-            Piece::Words(words),
-            Piece::Place(first.at()),
-        ],
-    )?;
-    notes.say(&[Piece::Words("a macro or a function is declared before it is used")])
+    notes.fault(
+        spot_of(name),
+        form,
+        Piece::Name(name),
+        Piece::Place(first.at()),
+    );
+    notes.say("a macro or a function is declared before it is used");
 }
 
 /// S2.
-pub fn undeclared(notes: &mut Notes<'_>, subject: &Subject<'_, '_>) -> Result<(), NoMemory> {
+pub fn undeclared(notes: &mut Notes<'_>, subject: &Subject<'_, '_>) {
     let want = match subject.used() {
         Some(used) => used.want,
         None => Want::Operand,
     };
     match subject.globals.meaning(subject.name) {
-        Some(known) => too_early(notes, subject, known),
+        Some(known) => too_early(notes, subject.name, known_name(known)),
         None => not_declared(notes, subject, want),
     }
 }
@@ -166,72 +162,99 @@ fn meant(want: Want, sort: Sort) -> Option<&'static str> {
     }
 }
 
-/// S3.
-pub fn wrong_sort(notes: &mut Notes<'_>, subject: &Subject<'_, '_>) -> Result<(), NoMemory> {
-    let (used, known) = match (subject.used(), subject.globals.meaning(subject.name)) {
-        (Some(used), Some(known)) => (used, known),
-        _ => return Ok(()),
-    };
+fn tell_sort(notes: &mut Notes<'_>, name: &Text, want: Want, known: &Known<'_>) {
     let sort = known_sort(known);
-    point_at(
-        notes,
-        subject.name,
-        &[
-            Piece::Name(subject.name),
-            Piece::Words(" is "),
-            Piece::Words(sort.words()),
-            Piece::Words("; "),
-            Piece::Words(wanted(used.want)),
-        ],
-    )?;
-    tell_known(notes, known)?;
-    match meant(used.want, sort) {
-        Some(words) => notes.say(&[Piece::Words(words)]),
-        None if used.want == Want::Type => Ok(()),
-        None => tell_list(notes, "its values are ", values_of(known.decl)),
+    notes.fault_four(
+        spot_of(name),
+        "{} is {}; {}",
+        Piece::Name(name),
+        Piece::Words(sort.words()),
+        Piece::Words(wanted(want)),
+        Piece::Nothing,
+    );
+    tell_known(notes, known);
+    match meant(want, sort) {
+        Some(words) => notes.say(words),
+        None if want == Want::Type => {}
+        None => tell_list(notes, "  its values are ", values_of(known.decl)),
     }
 }
 
-/// Whether a list has the name that is shown.
-fn has_shown(subject: &Subject<'_, '_>, list: &[Mention]) -> bool {
-    list.iter().any(|mention| subject.is_shown(&mention.name))
+/// S3.
+pub fn wrong_sort(notes: &mut Notes<'_>, subject: &Subject<'_, '_>) {
+    match (subject.used(), subject.globals.meaning(subject.name)) {
+        (Some(used), Some(known)) => tell_sort(notes, subject.name, used.want, known),
+        _ => {}
+    }
 }
 
-/// The mention that stands before the shown one in a list, and is the same.
-fn same_before<'a>(subject: &Subject<'_, '_>, list: &'a [Mention]) -> Option<&'a Mention> {
-    let shown = list.iter().find(|mention| subject.is_shown(&mention.name))?;
-    let same = list.iter().find(|mention| {
-        mention.name.bytes() == shown.name.bytes() && index_of(mention) == index_of(shown)
-    });
-    match same {
-        Some(same) if same.name.at() < shown.name.at() => Some(same),
-        _ => list
-            .iter()
-            .find(|mention| mention.name.bytes() == shown.name.bytes()),
+/// The shown name in a list.
+fn shown_in<'a>(subject: &Subject<'_, '_>, list: &'a [Mention]) -> Option<&'a Mention> {
+    for mention in list {
+        if subject.is_shown(&mention.name) {
+            return Some(mention);
+        }
     }
+    None
+}
+
+/// The first mention in a list that is the same as a later one; else the first of its name.
+fn same_in<'a>(list: &'a [Mention], later: &Mention) -> Option<&'a Text> {
+    let mut named = None;
+    for mention in list {
+        if mention.name.bytes() == later.name.bytes() {
+            let is_before = mention.name.at() < later.name.at();
+            if is_before && index_of(mention) == index_of(later) {
+                return Some(&mention.name);
+            }
+            if named.is_none() {
+                named = Some(&mention.name);
+            }
+        }
+    }
+    named
+}
+
+/// Where the shown name stands before in a list.
+fn before_in<'a>(subject: &Subject<'_, '_>, list: &'a [Mention]) -> Option<&'a Text> {
+    let shown = shown_in(subject, list)?;
+    same_in(list, shown)
+}
+
+/// The inputs of a receive.
+fn inputs_of(decl: &Decl) -> &[Mention] {
+    match decl {
+        Decl::Receive { inputs, .. } => inputs.as_slice(),
+        _ => &[],
+    }
+}
+
+/// Where the shown name stands before in its list.
+fn listed_before<'a>(subject: &Subject<'a, '_>) -> Option<&'a Text> {
+    for decl in subject.spec.decls.as_slice() {
+        if let Some(first) = before_in(subject, inputs_of(decl)) {
+            return Some(first);
+        }
+    }
+    for at in subject.survey.transitions.as_slice() {
+        if let Some(first) = before_in(subject, at.transition.raises.as_slice()) {
+            return Some(first);
+        }
+    }
+    None
 }
 
 /// S14.
-pub fn repeated(notes: &mut Notes<'_>, subject: &Subject<'_, '_>) -> Result<(), NoMemory> {
-    let lists = subject.survey.lists.as_slice();
-    let list = match lists.iter().find(|list| has_shown(subject, list)) {
-        Some(list) => list,
-        None => return Ok(()),
-    };
-    let first = match same_before(subject, list) {
-        Some(first) => first,
-        None => return Ok(()),
-    };
-    point_at(
-        notes,
-        subject.name,
-        &[
+pub fn repeated(notes: &mut Notes<'_>, subject: &Subject<'_, '_>) {
+    if let Some(first) = listed_before(subject) {
+        notes.fault(
+            spot_of(subject.name),
+            "{} stands in the list before, at {}",
             Piece::Name(subject.name),
-            Piece::Words(" stands in the list before, at "),
-            Piece::Place(first.name.at()),
-        ],
-    )?;
-    notes.say(&[Piece::Words(
-        "a receive lists an input once, and a transition raises an event with an index once",
-    )])
+            Piece::Place(first.at()),
+        );
+        notes.say(
+            "a receive lists an input once, and a transition raises an event with an index once",
+        );
+    }
 }

@@ -1,62 +1,74 @@
 //! S4, S5 and S6: ranges, sizes, bounds and indices.
 
-use crate::behind::{point_at_rest, point_behind};
-use crate::subject::{Subject, known_name, number_in, point_at, tell_amount};
-use rsml_base::{NoMemory, Text, put};
-use rsml_names::{children_of, number_of};
-use rsml_syntax::{Amount, Body, Decl, Index, Mention, StateDecl};
-use source_notes::{Notes, Piece};
-use source_survey::{Around, InPath, Sized, Sort};
+use crate::spots::{rest_behind, token_behind};
+use crate::state_faults::child_named;
+use crate::subject::{Subject, known_name};
+use rsml_base::Text;
+use rsml_names::number_of;
+use rsml_syntax::{Amount, Body, Decl, Index, Mention};
+use source_notes::{Notes, Piece, spot_of};
+use source_survey::{Around, Declared, InPath, Sized, Sort};
+use std::str;
 
 /// S4.
-pub fn turned_range(notes: &mut Notes<'_>, subject: &Subject<'_, '_>) -> Result<(), NoMemory> {
-    match subject.declaration() {
-        Some(Decl::Range { name, low, high }) => point_at_rest(
-            notes,
-            name,
-            b"",
-            &[
-                Piece::Words("the range "),
-                Piece::Name(name),
-                Piece::Words(" has no number: its low end "),
-                Piece::Number(number_of(low)),
-                Piece::Words(" is above its high end "),
-                Piece::Number(number_of(high)),
-            ],
-        ),
-        _ => Ok(()),
+pub fn turned_range(notes: &mut Notes<'_>, subject: &Subject<'_, '_>) {
+    if let Some(Decl::Range { name, low, high }) = subject.declaration() {
+        notes.fault_four(
+            rest_behind(notes.text(), name, b""),
+            "the range {} has no number: its low end {} is above its high end {}",
+            Piece::Name(name),
+            Piece::Number(number_of(low)),
+            Piece::Number(number_of(high)),
+            Piece::Nothing,
+        );
     }
 }
 
-/// S5.
-pub fn wrong_size(notes: &mut Notes<'_>, subject: &Subject<'_, '_>) -> Result<(), NoMemory> {
-    let declared = match subject.declared() {
-        Some(declared) => declared,
-        None => return Ok(()),
+/// Tells what a size is, where a constant tells it.
+fn tell_amount(notes: &mut Notes<'_>, subject: &Subject<'_, '_>, amount: &Amount) {
+    let name = match amount {
+        Amount::Number(_) => return,
+        Amount::Name(name) => name,
     };
-    let size = match declared.size {
-        Some(size) => size,
-        None => return Ok(()),
-    };
-    let is_bound = declared.sort == Sort::Variable;
-    let words = if is_bound {
-        "the bound of the variable "
+    if let Some(known) = subject.globals.meaning(name) {
+        if let Some(number) = known.constant() {
+            notes.say_four(
+                "the constant {}, declared at {}, is {}",
+                Piece::Name(name),
+                Piece::Place(known_name(known).at()),
+                Piece::Number(number),
+                Piece::Nothing,
+            );
+        }
+    }
+}
+
+/// A size or a bound that is none.
+fn tell_bound(notes: &mut Notes<'_>, declared: &Declared<'_>, number: i64) {
+    let (before, form): (&[u8], &str) = if declared.sort == Sort::Variable {
+        (
+            b"of",
+            "the bound of the variable {} is {}; it must be 1 to 64",
+        )
     } else {
-        "the size of "
+        (b"[", "the size of {} is {}; it must be 1 to 64")
     };
-    point_behind(
-        notes,
-        subject.name,
-        if is_bound { b"of" } else { b"[" },
-        &[
-            Piece::Words(words),
-            Piece::Name(subject.name),
-            Piece::Words(" is "),
-            Piece::Number(number_in(subject.globals, size)),
-            Piece::Words("; it must be 1 to 64"),
-        ],
-    )?;
-    tell_amount(notes, subject.globals, size)
+    notes.fault(
+        token_behind(notes.text(), declared.name, before),
+        form,
+        Piece::Name(declared.name),
+        Piece::Number(number),
+    );
+}
+
+/// S5.
+pub fn wrong_size(notes: &mut Notes<'_>, subject: &Subject<'_, '_>) {
+    if let Some(declared) = subject.declared() {
+        if let Some(size) = declared.size {
+            tell_bound(notes, &declared, subject.number(size));
+            tell_amount(notes, subject, size);
+        }
+    }
 }
 
 /// A name with an index, the declaration that it names, and what is around it.
@@ -68,21 +80,15 @@ struct Indexed<'a> {
     around: Around<'a>,
 }
 
-/// The child of a name.
-fn child_named<'a>(body: &'a Body, name: &Text) -> Option<&'a StateDecl> {
-    children_of(body)
-        .iter()
-        .find(|child| child.name.bytes() == name.bytes())
-}
-
-/// The shown step of a path below a state.
-fn step_below<'a>(
+/// The shown step of a path.
+fn step_in<'a>(
     subject: &Subject<'a, '_>,
     body: &'a Body,
     path: &InPath<'a>,
 ) -> Option<Indexed<'a>> {
+    let (_, steps) = path.steps.split_first()?;
     let mut body = body;
-    for mention in path.steps.iter().skip(1) {
+    for mention in steps {
         let child = child_named(body, &mention.name)?;
         if subject.is_shown(&mention.name) {
             return Some(Indexed {
@@ -97,15 +103,14 @@ fn step_below<'a>(
     None
 }
 
-/// The shown step of a path.
+/// The shown step among those of all paths.
 fn step_of<'a>(subject: &Subject<'a, '_>) -> Option<Indexed<'a>> {
-    let paths = subject.survey.paths.as_slice();
-    let path = paths.iter().find(|path| {
-        path.steps
-            .iter()
-            .any(|mention| subject.is_shown(&mention.name))
-    })?;
-    step_below(subject, &subject.spec.body, path)
+    for path in subject.survey.paths.as_slice() {
+        if let Some(step) = step_in(subject, &subject.spec.body, path) {
+            return Some(step);
+        }
+    }
+    None
 }
 
 /// The shown name with its index.
@@ -123,224 +128,191 @@ fn indexed_name<'a>(subject: &Subject<'a, '_>) -> Option<Indexed<'a>> {
     })
 }
 
-/// What an index is that reaches too far, or is none.
-fn index_fault<'a>(
-    subject: &Subject<'a, '_>,
-    index: &'a Index,
-    around: &Around<'a>,
-) -> (Piece<'a>, Option<Sized<'a>>) {
-    match index {
-        Index::Number(number) => (Piece::Number(i64::from(*number)), None),
-        Index::This => (Piece::Code(b"this"), around.array),
-        Index::Name(name) => match around.variable {
-            Some(variable) if variable.name.bytes() == name.bytes() => {
-                (Piece::Name(name), Some(variable))
-            }
-            _ => match subject.globals.constant(name) {
-                Some(number) => (Piece::Number(number), None),
-                None => (Piece::Name(name), None),
-            },
+/// How far an index goes.
+#[derive(Clone, Copy)]
+enum Reach<'a> {
+    Number(i64),
+    /// As far as the size of the array or the variable that it is written with.
+    Sized(Piece<'a>, Sized<'a>),
+    /// `this` is the index of nothing.
+    Stray,
+    Unknown(&'a Text),
+}
+
+fn reach_of<'a>(subject: &Subject<'a, '_>, index: &'a Index, around: &Around<'a>) -> Reach<'a> {
+    let name = match index {
+        Index::Number(number) => return Reach::Number(i64::from(*number)),
+        Index::This => {
+            return match around.array {
+                Some(array) => Reach::Sized(Piece::Code(b"this"), array),
+                None => Reach::Stray,
+            };
+        }
+        Index::Name(name) => name,
+    };
+    match around.variable {
+        Some(variable) if variable.name.bytes() == name.bytes() => {
+            Reach::Sized(Piece::Name(name), variable)
+        }
+        _ => match subject.globals.constant(name) {
+            Some(number) => Reach::Number(number),
+            None => Reach::Unknown(name),
         },
     }
 }
 
-/// Whether a size has a number. Where it has none, that is told at its name.
-fn has_number(subject: &Subject<'_, '_>, size: Option<&Amount>) -> bool {
-    match size {
-        Some(size) => subject.globals.amount(size).is_some(),
-        None => true,
-    }
-}
-
-/// Whether what an index gets its range from has a number.
-fn has_range<'a>(subject: &Subject<'a, '_>, indexed: &Indexed<'a>) -> bool {
-    match &indexed.mention.index {
-        Some(index) => match index_fault(subject, index, &indexed.around) {
-            (_, Some(sized)) => has_number(subject, Some(sized.size)),
-            _ => true,
-        },
-        None => true,
-    }
-}
-
-/// An index whose range, which this name gives, goes up to the first number, and that of its name only to the second.
-fn too_far<'x>(
-    notes: &mut Notes<'_>,
-    name: &'x Text,
-    index: Piece<'x>,
-    ranged: &'x Text,
-    most: [i64; 2],
-) -> Result<(), NoMemory> {
-    let [highest, size] = most;
-    point_behind(
-        notes,
-        name,
-        b"[",
-        &[
-            Piece::Words("the index "),
-            index,
-            Piece::Words(" goes up to "),
-            Piece::Number(highest),
-            Piece::Words(", but that of "),
-            Piece::Name(name),
-            Piece::Words(" only to "),
-            Piece::Number(size),
-        ],
-    )?;
-    notes.say(&[
+/// Tells an index whose range goes up to a number, and that of its name only up to another.
+fn too_far<'a>(notes: &mut Notes<'_>, name: &'a Text, index: Piece<'a>, highest: i64, size: i64) {
+    notes.fault_four(
+        token_behind(notes.text(), name, b"["),
+        "the index {} goes up to {}, but that of {} only to {}",
         index,
-        Piece::Words(" gets its range from "),
-        Piece::Name(ranged),
-        Piece::Words(", at "),
-        Piece::Place(ranged.at()),
-    ])
+        Piece::Number(highest),
+        Piece::Name(name),
+        Piece::Number(size),
+    );
 }
 
-/// `this` where it is the index of nothing.
-fn stray_this(notes: &mut Notes<'_>, name: &Text) -> Result<(), NoMemory> {
-    point_behind(
-        notes,
-        name,
-        b"[",
-        &[Piece::Words("`this` is the index of nothing here")],
-    )?;
-    notes.say(&[Piece::Words(
-        "`this` stands inside a state array, or a macro, function, receive or send with a size",
-    )])
-}
-
-/// An index that is wrong whatever is around.
-fn wrong_alone<'x>(
-    notes: &mut Notes<'_>,
-    name: &'x Text,
-    index: Piece<'x>,
-    size: i64,
-) -> Result<(), NoMemory> {
-    match index {
-        Piece::Number(_) => point_behind(
-            notes,
-            name,
-            b"[",
-            &[
-                Piece::Words("the index "),
-                index,
-                Piece::Words(" is out of range; that of "),
-                Piece::Name(name),
-                Piece::Words(" goes from 1 to "),
-                Piece::Number(size),
-            ],
-        ),
-        Piece::Code(_) => stray_this(notes, name),
-        _ => point_behind(
-            notes,
-            name,
-            b"[",
-            &[
-                Piece::Words("the index "),
-                index,
-                Piece::Words(" is neither a constant nor the variable of a quantifier around"),
-            ],
-        ),
-    }
+fn out_of_range(notes: &mut Notes<'_>, name: &Text, index: i64, size: i64) {
+    notes.fault_four(
+        token_behind(notes.text(), name, b"["),
+        "the index {} is out of range; that of {} goes from 1 to {}",
+        Piece::Number(index),
+        Piece::Name(name),
+        Piece::Number(size),
+        Piece::Nothing,
+    );
 }
 
 /// What is wrong with an index of a name with a size.
-fn wrong_index<'x>(
-    notes: &mut Notes<'_>,
-    subject: &Subject<'x, 'x>,
-    index: &'x Index,
-    indexed: &Indexed<'x>,
-    size: i64,
-) -> Result<(), NoMemory> {
-    let (piece, sized) = index_fault(subject, index, &indexed.around);
-    match sized {
-        Some(sized) => {
-            let highest = number_in(subject.globals, sized.size);
-            too_far(notes, subject.name, piece, sized.name, [highest, size])
+fn wrong_index<'a>(notes: &mut Notes<'_>, subject: &Subject<'a, '_>, reach: Reach<'a>, size: i64) {
+    let name = subject.name;
+    let spot = token_behind(notes.text(), name, b"[");
+    match reach {
+        Reach::Number(number) => out_of_range(notes, name, number, size),
+        Reach::Sized(index, sized) => {
+            too_far(notes, name, index, subject.number(sized.size), size);
+            notes.say_four(
+                "{} gets its range from {}, at {}",
+                index,
+                Piece::Name(sized.name),
+                Piece::Place(sized.name.at()),
+                Piece::Nothing,
+            );
         }
-        None => wrong_alone(notes, subject.name, piece, size),
-    }
-}
-
-/// Tells where a name is declared, with its size or without.
-fn tell_size(
-    notes: &mut Notes<'_>,
-    subject: &Subject<'_, '_>,
-    indexed: &Indexed<'_>,
-) -> Result<(), NoMemory> {
-    match indexed.size {
-        Some(size) => notes.say(&[
-            Piece::Name(indexed.declared),
-            Piece::Words(" is declared with the size "),
-            Piece::Number(number_in(subject.globals, size)),
-            Piece::Words(", at "),
-            Piece::Place(indexed.declared.at()),
-        ]),
-        None => notes.say(&[
-            Piece::Name(indexed.declared),
-            Piece::Words(" is declared without a size, at "),
-            Piece::Place(indexed.declared.at()),
-        ]),
+        Reach::Stray => {
+            notes.fault(
+                spot,
+                "`this` is the index of nothing here",
+                Piece::Nothing,
+                Piece::Nothing,
+            );
+            notes.say(
+                "`this` stands inside a state array, or a macro, function, receive or send with a size",
+            );
+        }
+        Reach::Unknown(index) => notes.fault(
+            spot,
+            "the index {} is neither a constant nor the variable of a quantifier around",
+            Piece::Name(index),
+            Piece::Nothing,
+        ),
     }
 }
 
 /// What may be the index of a name with this size at a place.
-fn likely_index<'a>(subject: &Subject<'a, '_>, around: &Around<'a>, size: i64) -> &'a [u8] {
+fn likely_index<'a>(subject: &Subject<'a, '_>, around: &Around<'a>, size: i64) -> &'a str {
     match (around.variable, around.array) {
-        (Some(variable), _) if number_in(subject.globals, variable.size) == size => {
-            variable.name.bytes()
+        (Some(variable), _) if subject.number(variable.size) == size => {
+            match str::from_utf8(variable.name.bytes()) {
+                Ok(name) => name,
+                Err(_) => "1",
+            }
         }
-        (_, Some(array)) if number_in(subject.globals, array.size) == size => b"this",
-        _ => b"1",
+        (_, Some(array)) if subject.number(array.size) == size => "this",
+        _ => "1",
     }
 }
 
-/// A name with this size that has no index.
-fn no_index<'x>(
+/// Tells where a name is declared, with its size or without.
+fn tell_size(notes: &mut Notes<'_>, declared: &Text, size: Option<i64>) {
+    match size {
+        Some(size) => notes.say_four(
+            "{} is declared with the size {}, at {}",
+            Piece::Name(declared),
+            Piece::Number(size),
+            Piece::Place(declared.at()),
+            Piece::Nothing,
+        ),
+        None => notes.say_two(
+            "{} is declared without a size, at {}",
+            Piece::Name(declared),
+            Piece::Place(declared.at()),
+        ),
+    }
+}
+
+/// Tells a name with this size that has no index.
+fn no_index(notes: &mut Notes<'_>, subject: &Subject<'_, '_>, indexed: &Indexed<'_>, size: i64) {
+    notes.fault(
+        spot_of(subject.name),
+        "{} needs an index, as in `[{}]`",
+        Piece::Name(subject.name),
+        Piece::Words(likely_index(subject, &indexed.around, size)),
+    );
+}
+
+/// Tells a name without size that has an index.
+fn stray_index(notes: &mut Notes<'_>, name: &Text) {
+    notes.fault(
+        token_behind(notes.text(), name, b"["),
+        "{} takes no index",
+        Piece::Name(name),
+        Piece::Nothing,
+    );
+}
+
+/// Whether a size has a number. Where it has none, that is told at its name.
+fn has_number(subject: &Subject<'_, '_>, size: &Amount) -> bool {
+    subject.globals.amount(size).is_some()
+}
+
+/// Whether the range of an index has a number.
+fn has_range(subject: &Subject<'_, '_>, reach: Option<Reach<'_>>) -> bool {
+    match reach {
+        Some(Reach::Sized(_, sized)) => has_number(subject, sized.size),
+        _ => true,
+    }
+}
+
+/// Tells what is wrong with an index or without one.
+fn tell_index<'a>(
     notes: &mut Notes<'_>,
-    subject: &Subject<'x, 'x>,
-    around: &Around<'x>,
-    size: i64,
-) -> Result<(), NoMemory> {
-    let mut example = Vec::from_slice(notes.alloc(), b"[")?;
-    put(&mut example, likely_index(subject, around, size))?;
-    put(&mut example, b"]")?;
-    point_at(
-        notes,
-        subject.name,
-        &[
-            Piece::Name(subject.name),
-            Piece::Words(" needs an index, as in "),
-            Piece::Code(example.as_slice()),
-        ],
-    )
+    subject: &Subject<'a, '_>,
+    indexed: &Indexed<'a>,
+    reach: Option<Reach<'a>>,
+    size: Option<i64>,
+) {
+    match (size, reach) {
+        (Some(size), Some(reach)) => wrong_index(notes, subject, reach, size),
+        (Some(size), None) => no_index(notes, subject, indexed, size),
+        (None, _) => stray_index(notes, subject.name),
+    }
+    tell_size(notes, indexed.declared, size);
 }
 
 /// S6.
-pub fn wrong_indices(notes: &mut Notes<'_>, subject: &Subject<'_, '_>) -> Result<(), NoMemory> {
+pub fn wrong_indices(notes: &mut Notes<'_>, subject: &Subject<'_, '_>) {
     let indexed = match indexed_name(subject) {
         Some(indexed) => indexed,
-        None => return Ok(()),
+        None => return,
     };
-    if !has_number(subject, indexed.size) || !has_range(subject, &indexed) {
-        return Ok(());
+    let reach = match &indexed.mention.index {
+        Some(index) => Some(reach_of(subject, index, &indexed.around)),
+        None => None,
+    };
+    let size = subject.globals.size(indexed.size);
+    if indexed.size.is_some() == size.is_some() && has_range(subject, reach) {
+        tell_index(notes, subject, &indexed, reach, size);
     }
-    let name = subject.name;
-    match (indexed.size, &indexed.mention.index) {
-        (Some(size), Some(index)) => {
-            let size = number_in(subject.globals, size);
-            wrong_index(notes, &*subject, index, &indexed, size)?;
-        }
-        (Some(size), None) => {
-            let size = number_in(subject.globals, size);
-            no_index(notes, &*subject, &indexed.around, size)?;
-        }
-        (None, _) => point_behind(
-            notes,
-            name,
-            b"[",
-            &[Piece::Name(name), Piece::Words(" takes no index")],
-        )?,
-    }
-    tell_size(notes, subject, &indexed)
 }

@@ -1,65 +1,111 @@
 //! S9 to S13: paths, children, buses, sources, targets and arrays.
 
-use crate::subject::{Subject, child_names, names_in, point_at, tell_names, tell_nearest};
-use rsml_base::{NoMemory, Text};
+use crate::lists::{put_name, tell_nearest};
+use crate::near::Search;
+use crate::subject::Subject;
+use rsml_base::Text;
 use rsml_names::{buses_of, children_of, default_of};
-use rsml_syntax::{Body, Bus, Mention, StateDecl};
-use source_notes::{Notes, Piece};
-use source_survey::{InPath, Space, StateAt, TransitionAt};
+use rsml_syntax::{Body, Bus, Mention, StateDecl, Transition};
+use source_notes::{Notes, Piece, spot_of};
+use source_survey::{StateAt, TransitionAt};
+use text_writer::Draft;
 
 /// The greatest number of children.
 const MOST_CHILDREN: usize = 64;
 
-fn child_named<'a>(body: &'a Body, name: &Text) -> Option<&'a StateDecl> {
-    children_of(body)
-        .iter()
-        .find(|child| child.name.bytes() == name.bytes())
+/// The child of a name.
+pub fn child_named<'a>(body: &'a Body, name: &Text) -> Option<&'a StateDecl> {
+    for child in children_of(body) {
+        if child.name.bytes() == name.bytes() {
+            return Some(child);
+        }
+    }
+    None
+}
+
+/// The child or bus that is most like a name.
+fn nearest_member<'a>(
+    name: &'a Text,
+    children: &'a [StateDecl],
+    buses: &'a [Bus],
+) -> Option<&'a Text> {
+    let mut search = Search::new(name);
+    for child in children {
+        search.compare(&child.name);
+    }
+    for bus in buses {
+        search.compare(&bus.name);
+    }
+    search.best
+}
+
+fn put_members(line: &mut Draft, children: &[StateDecl], buses: &[Bus]) {
+    let count = children.len().saturating_add(buses.len());
+    for (place, child) in children.iter().enumerate() {
+        put_name(line, place, count, &child.name);
+    }
+    for (place, bus) in buses.iter().enumerate() {
+        put_name(line, place.saturating_add(children.len()), count, &bus.name);
+    }
+}
+
+/// Tells children and buses, and the one that is most like a name.
+fn tell_members(
+    notes: &mut Notes<'_>,
+    name: &Text,
+    words: &str,
+    children: &[StateDecl],
+    buses: &[Bus],
+) {
+    tell_nearest(notes, name, nearest_member(name, children, buses));
+    if children.is_empty() && buses.is_empty() {
+        return;
+    }
+    let mut line = notes.line(words);
+    put_members(&mut line, children, buses);
+    notes.keep(line);
 }
 
 /// Tells the children of a state, and the one that is most like a name.
-fn tell_children(notes: &mut Notes<'_>, name: &Text, body: &Body) -> Result<(), NoMemory> {
-    let names = child_names(notes.alloc(), body)?;
-    tell_nearest(notes, name, names.as_slice())?;
-    tell_names(notes, "the children there are ", names.as_slice())
-}
-
-/// The path whose last name is shown.
-fn path_of<'a>(subject: &Subject<'a, '_>) -> Option<InPath<'a>> {
-    let paths = subject.survey.paths.as_slice();
-    paths.iter().copied().find(|path| match path.steps.last() {
-        Some(last) => subject.is_shown(&last.name),
-        None => false,
-    })
+fn tell_children(notes: &mut Notes<'_>, name: &Text, body: &Body) {
+    tell_members(
+        notes,
+        name,
+        "  the children there are ",
+        children_of(body),
+        &[],
+    );
 }
 
 /// A step of a path that is no child of the one before it.
-fn no_child<'x>(
-    notes: &mut Notes<'_>,
-    parent: &'x Text,
-    step: &'x Text,
-    body: &Body,
-) -> Result<(), NoMemory> {
-    point_at(
-        notes,
-        step,
-        &[
-            Piece::Name(step),
-            Piece::Words(" is no child of "),
-            Piece::Name(parent),
-        ],
-    )?;
+fn no_child<'a>(notes: &mut Notes<'_>, parent: &'a Text, step: &'a Text, body: &Body) {
+    notes.fault(
+        spot_of(step),
+        "{} is no child of {}",
+        Piece::Name(step),
+        Piece::Name(parent),
+    );
     if children_of(body).is_empty() {
-        return notes.say(&[Piece::Name(parent), Piece::Words(" has no children")]);
+        notes.say_one("{} has no children", Piece::Name(parent));
+    } else {
+        tell_children(notes, step, body);
     }
-    tell_children(notes, step, body)
+}
+
+/// The path whose last name is shown.
+fn path_of<'a>(subject: &Subject<'a, '_>) -> Option<&'a [Mention]> {
+    for path in subject.survey.paths.as_slice() {
+        if let Some(last) = path.steps.last() {
+            if subject.is_shown(&last.name) {
+                return Some(path.steps);
+            }
+        }
+    }
+    None
 }
 
 /// The later steps of a path.
-fn wrong_steps(
-    notes: &mut Notes<'_>,
-    subject: &Subject<'_, '_>,
-    steps: &[Mention],
-) -> Result<(), NoMemory> {
+fn wrong_steps(notes: &mut Notes<'_>, subject: &Subject<'_, '_>, steps: &[Mention]) {
     let mut parent = &subject.spec.top;
     let mut body = &subject.spec.body;
     for step in steps {
@@ -71,108 +117,118 @@ fn wrong_steps(
             None => return no_child(notes, parent, &step.name, body),
         }
     }
-    Ok(())
+}
+
+/// A path that begins wrong; whether it does.
+fn tell_start<'a>(notes: &mut Notes<'_>, first: &'a Mention, top: &'a Text) -> bool {
+    if first.name.bytes() != top.bytes() {
+        notes.fault(
+            spot_of(&first.name),
+            "the path begins with {}; a path after `in` begins with the top state {}",
+            Piece::Name(&first.name),
+            Piece::Name(top),
+        );
+        return true;
+    }
+    if first.index.is_some() {
+        notes.fault(
+            spot_of(&first.name),
+            "the top state {} has no index",
+            Piece::Name(top),
+            Piece::Nothing,
+        );
+        return true;
+    }
+    false
 }
 
 /// S9.
-pub fn wrong_path(notes: &mut Notes<'_>, subject: &Subject<'_, '_>) -> Result<(), NoMemory> {
-    let path = match path_of(subject) {
-        Some(path) => path,
-        None => return Ok(()),
-    };
-    let (first, rest) = match path.steps.split_first() {
-        Some(parts) => parts,
-        None => return Ok(()),
-    };
-    let top = &subject.spec.top;
-    if first.name.bytes() != top.bytes() {
-        return point_at(
-            notes,
-            &first.name,
-            &[
-                Piece::Words("the path begins with "),
-                Piece::Name(&first.name),
-                Piece::Words("; a path after `in` begins with the top state "),
-                Piece::Name(top),
-            ],
-        );
+pub fn wrong_path(notes: &mut Notes<'_>, subject: &Subject<'_, '_>) {
+    if let Some([first, rest @ ..]) = path_of(subject) {
+        if !tell_start(notes, first, &subject.spec.top) {
+            wrong_steps(notes, subject, rest);
+        }
     }
-    if first.index.is_some() {
-        return point_at(
-            notes,
-            &first.name,
-            &[
-                Piece::Words("the top state "),
-                Piece::Name(top),
-                Piece::Words(" has no index"),
-            ],
-        );
-    }
-    wrong_steps(notes, subject, rest)
 }
 
 /// The state that is shown.
 fn state_of<'a>(subject: &Subject<'a, '_>) -> Option<StateAt<'a>> {
-    let states = subject.survey.states.as_slice();
-    states
-        .iter()
-        .copied()
-        .find(|state| subject.is_shown(state.name))
+    for state in subject.survey.states.as_slice() {
+        if subject.is_shown(state.name) {
+            return Some(*state);
+        }
+    }
+    None
+}
+
+/// A default that is no child.
+fn wrong_default<'a>(notes: &mut Notes<'_>, state: &StateAt<'a>, first: &'a Text) {
+    notes.fault(
+        spot_of(first),
+        "the default {} is no child of {}",
+        Piece::Name(first),
+        Piece::Name(state.name),
+    );
+    tell_children(notes, first, state.body);
+}
+
+/// Tells what is wrong with the children of a state, or with its default.
+fn tell_state(notes: &mut Notes<'_>, state: &StateAt<'_>) {
+    let children = children_of(state.body).len();
+    if children == 0 || MOST_CHILDREN < children {
+        notes.fault(
+            spot_of(state.name),
+            "the state {} has {} children; a `one` or `all` state has 1 to 64",
+            Piece::Name(state.name),
+            Piece::Count(children),
+        );
+    } else if let Some(first) = default_of(state.body) {
+        wrong_default(notes, state, first);
+    }
 }
 
 /// S10.
-pub fn wrong_children(notes: &mut Notes<'_>, subject: &Subject<'_, '_>) -> Result<(), NoMemory> {
-    let state = match state_of(subject) {
-        Some(state) => state,
-        None => return Ok(()),
-    };
-    let children = children_of(state.body).len();
-    if children == 0 || MOST_CHILDREN < children {
-        return point_at(
-            notes,
-            state.name,
-            &[
-                Piece::Words("the state "),
-                Piece::Name(state.name),
-                Piece::Words(" has "),
-                Piece::Count(children),
-                Piece::Words(" children; a `one` or `all` state has 1 to 64"),
-            ],
-        );
+pub fn wrong_children(notes: &mut Notes<'_>, subject: &Subject<'_, '_>) {
+    if let Some(state) = state_of(subject) {
+        tell_state(notes, &state);
     }
-    match default_of(state.body) {
-        Some(first) => {
-            point_at(
-                notes,
-                first,
-                &[
-                    Piece::Words("the default "),
-                    Piece::Name(first),
-                    Piece::Words(" is no child of "),
-                    Piece::Name(state.name),
-                ],
-            )?;
-            tell_children(notes, first, state.body)
+}
+
+/// The bus of a state that is shown.
+fn bus_in<'a>(subject: &Subject<'a, '_>, body: &'a Body) -> Option<&'a Bus> {
+    for bus in buses_of(body) {
+        if subject.is_shown(&bus.name) {
+            return Some(bus);
         }
-        None => Ok(()),
     }
+    None
 }
 
 /// The first member of a bus that is no child.
 fn stranger<'a>(bus: &'a Bus, body: &Body) -> Option<&'a Text> {
-    let members = bus.members.as_slice();
-    members
-        .iter()
-        .find(|member| child_named(body, member).is_none())
+    for member in bus.members.as_slice() {
+        if child_named(body, member).is_none() {
+            return Some(member);
+        }
+    }
+    None
+}
+
+/// The first of some names that is this one.
+fn first_same<'a>(names: &'a [Text], name: &Text) -> Option<&'a Text> {
+    for other in names {
+        if other.bytes() == name.bytes() {
+            return Some(other);
+        }
+    }
+    None
 }
 
 /// The first member of a bus that stands there before, and where.
 fn member_again(bus: &Bus) -> Option<(&Text, &Text)> {
     let members = bus.members.as_slice();
     for member in members {
-        let first = members
-            .iter()
-            .find(|first| first.bytes() == member.bytes())?;
+        let first = first_same(members, member)?;
         if first.at() < member.at() {
             return Some((first, member));
         }
@@ -181,190 +237,161 @@ fn member_again(bus: &Bus) -> Option<(&Text, &Text)> {
 }
 
 fn is_bus(body: &Body, name: &Text) -> bool {
-    buses_of(body)
-        .iter()
-        .any(|bus| bus.name.bytes() == name.bytes())
+    for bus in buses_of(body) {
+        if bus.name.bytes() == name.bytes() {
+            return true;
+        }
+    }
+    false
 }
 
 /// A member of a bus that is no child of its component.
-fn no_member<'x>(
-    notes: &mut Notes<'_>,
-    bus: &'x Text,
-    member: &'x Text,
-    state: &StateAt<'x>,
-) -> Result<(), NoMemory> {
-    point_at(
-        notes,
-        member,
-        &[
-            Piece::Words("the member "),
-            Piece::Name(member),
-            Piece::Words(" of the bus "),
-            Piece::Name(bus),
-            Piece::Words(" is no child of "),
-            Piece::Name(state.name),
-        ],
-    )?;
+fn no_member<'a>(notes: &mut Notes<'_>, bus: &'a Text, member: &'a Text, state: &StateAt<'a>) {
+    notes.fault_four(
+        spot_of(member),
+        "the member {} of the bus {} is no child of {}",
+        Piece::Name(member),
+        Piece::Name(bus),
+        Piece::Name(state.name),
+        Piece::Nothing,
+    );
     if is_bus(state.body, member) {
-        notes.say(&[Piece::Words("a bus is no member of a bus")])?;
+        notes.say("a bus is no member of a bus");
     }
-    tell_children(notes, member, state.body)
+    tell_children(notes, member, state.body);
 }
 
 /// A member that stands in a bus before.
-fn repeated_member(notes: &mut Notes<'_>, bus: &Bus) -> Result<(), NoMemory> {
-    match member_again(bus) {
-        Some((first, member)) => point_at(
-            notes,
-            member,
-            &[
-                Piece::Words("the member "),
-                Piece::Name(member),
-                Piece::Words(" of the bus "),
-                Piece::Name(&bus.name),
-                Piece::Words(" stands there before, at "),
-                Piece::Place(first.at()),
-            ],
-        ),
-        None => Ok(()),
+fn repeated_member(notes: &mut Notes<'_>, bus: &Bus) {
+    if let Some((first, member)) = member_again(bus) {
+        notes.fault_four(
+            spot_of(member),
+            "the member {} of the bus {} stands there before, at {}",
+            Piece::Name(member),
+            Piece::Name(&bus.name),
+            Piece::Place(first.at()),
+            Piece::Nothing,
+        );
     }
 }
 
 /// S11.
-pub fn wrong_bus(notes: &mut Notes<'_>, subject: &Subject<'_, '_>) -> Result<(), NoMemory> {
-    let buses = subject.survey.buses.as_slice();
-    let found = match buses.iter().find(|bus| subject.is_shown(&bus.bus.name)) {
-        Some(found) => found,
-        None => return Ok(()),
-    };
-    let state = match subject.survey.states.get(found.state) {
-        Some(state) => state,
-        None => return Ok(()),
-    };
-    match stranger(found.bus, state.body) {
-        Some(member) => no_member(notes, &found.bus.name, member, state),
-        None => repeated_member(notes, found.bus),
+pub fn wrong_bus(notes: &mut Notes<'_>, subject: &Subject<'_, '_>) {
+    for state in subject.survey.states.as_slice() {
+        if let Some(bus) = bus_in(subject, state.body) {
+            return match stranger(bus, state.body) {
+                Some(member) => no_member(notes, &bus.name, member, state),
+                None => repeated_member(notes, bus),
+            };
+        }
     }
 }
 
-/// The transition whose source is shown.
-fn source_of<'a>(subject: &Subject<'a, '_>) -> Option<TransitionAt<'a>> {
-    let all = subject.survey.transitions.as_slice();
-    all.iter()
-        .copied()
-        .find(|at| subject.is_shown(&at.transition.source))
-}
-
 /// The path of a target.
-fn target_of<'a>(at: &TransitionAt<'a>) -> &'a [Text] {
-    match &at.transition.target {
+fn target_of(transition: &Transition) -> &[Text] {
+    match &transition.target {
         Some(path) => path.as_slice(),
         None => &[],
     }
 }
 
-/// The transition the last name of whose target is shown.
-fn aimed<'a>(subject: &Subject<'a, '_>) -> Option<TransitionAt<'a>> {
-    let all = subject.survey.transitions.as_slice();
-    all.iter().copied().find(|at| match target_of(at).last() {
-        Some(last) => subject.is_shown(last),
-        None => false,
-    })
+/// Which end of a transition is shown.
+#[derive(Clone, Copy)]
+enum End<'a> {
+    Source(&'a Text),
+    Target(&'a [Text]),
+}
+
+fn shown_end<'a>(subject: &Subject<'a, '_>, transition: &'a Transition) -> Option<End<'a>> {
+    if subject.is_shown(&transition.source) {
+        return Some(End::Source(&transition.source));
+    }
+    let target = target_of(transition);
+    if subject.is_shown(target.last()?) {
+        return Some(End::Target(target));
+    }
+    None
+}
+
+/// The end that is shown, and the transition.
+fn end_of<'a>(subject: &Subject<'a, '_>) -> Option<(End<'a>, TransitionAt<'a>)> {
+    for at in subject.survey.transitions.as_slice() {
+        if let Some(end) = shown_end(subject, at.transition) {
+            return Some((end, *at));
+        }
+    }
+    None
 }
 
 /// A source that is neither child nor bus.
-fn wrong_source<'x>(
-    notes: &mut Notes<'_>,
-    subject: &Subject<'_, 'x>,
-    state: &StateAt<'x>,
-    place: usize,
-) -> Result<(), NoMemory> {
-    let source = subject.name;
-    point_at(
+fn wrong_source<'a>(notes: &mut Notes<'_>, state: &StateAt<'a>, source: &'a Text) {
+    notes.fault(
+        spot_of(source),
+        "the source {} is neither a child nor a bus of {}",
+        Piece::Name(source),
+        Piece::Name(state.name),
+    );
+    tell_members(
         notes,
         source,
-        &[
-            Piece::Words("the source "),
-            Piece::Name(source),
-            Piece::Words(" is neither a child nor a bus of "),
-            Piece::Name(state.name),
-        ],
-    )?;
-    let names = names_in(notes.alloc(), subject.survey, Space::State(place))?;
-    tell_nearest(notes, source, names.as_slice())?;
-    tell_names(notes, "its children and buses are ", names.as_slice())
+        "  its children and buses are ",
+        children_of(state.body),
+        buses_of(state.body),
+    );
+}
+
+/// Tells where targets begin.
+fn tell_begin(notes: &mut Notes<'_>, state: &Text, top: &Text, step: &Text) {
+    if step.bytes() == top.bytes() || step.bytes() == state.bytes() {
+        notes.say_one(
+            "a target begins with a child of the state around, here of {}; only paths after `in` begin at the top",
+            Piece::Name(state),
+        );
+    }
+}
+
+/// A target that leads into an array.
+fn into_array(notes: &mut Notes<'_>, step: &Text, array: &Text) {
+    notes.fault(
+        spot_of(step),
+        "the target leads into the array {}, declared at {}",
+        Piece::Name(step),
+        Piece::Place(array.at()),
+    );
 }
 
 /// A target that is no state, or an array.
-fn wrong_target(
-    notes: &mut Notes<'_>,
-    subject: &Subject<'_, '_>,
-    state: &StateAt<'_>,
-    target: &[Text],
-) -> Result<(), NoMemory> {
+fn wrong_target<'a>(notes: &mut Notes<'_>, state: &StateAt<'a>, top: &Text, target: &'a [Text]) {
     let mut parent = state.name;
     let mut body = state.body;
     for step in target {
         let child = match child_named(body, step) {
             Some(child) => child,
             None => {
-                no_child(notes, parent, step, body)?;
-                return tell_begin(notes, subject, state, step);
+                no_child(notes, parent, step, body);
+                return tell_begin(notes, state.name, top, step);
             }
         };
         if child.size.is_some() {
-            return point_at(
-                notes,
-                step,
-                &[
-                    Piece::Words("the target leads into the array "),
-                    Piece::Name(step),
-                    Piece::Words(", declared at "),
-                    Piece::Place(child.name.at()),
-                ],
-            );
+            return into_array(notes, step, &child.name);
         }
         parent = &child.name;
         body = &child.body;
     }
-    Ok(())
-}
-
-/// Tells where targets begin.
-fn tell_begin(
-    notes: &mut Notes<'_>,
-    subject: &Subject<'_, '_>,
-    state: &StateAt<'_>,
-    step: &Text,
-) -> Result<(), NoMemory> {
-    let is_top = step.bytes() == subject.spec.top.bytes();
-    if is_top || step.bytes() == state.name.bytes() {
-        return notes.say(&[
-            Piece::Words("a target begins with a child of the state around, here of "),
-            Piece::Name(state.name),
-            Piece::Words("; only paths after `in` begin at the top"),
-        ]);
-    }
-    Ok(())
 }
 
 /// S12.
-pub fn wrong_ends(notes: &mut Notes<'_>, subject: &Subject<'_, '_>) -> Result<(), NoMemory> {
-    let (at, is_source) = match source_of(subject) {
-        Some(at) => (at, true),
-        None => match aimed(subject) {
-            Some(at) => (at, false),
-            None => return Ok(()),
-        },
+pub fn wrong_ends(notes: &mut Notes<'_>, subject: &Subject<'_, '_>) {
+    let (end, at) = match end_of(subject) {
+        Some(found) => found,
+        None => return,
     };
-    let state = match subject.survey.states.get(at.state) {
-        Some(state) => state,
-        None => return Ok(()),
-    };
-    if is_source {
-        return wrong_source(notes, subject, state, at.state);
+    if let Some(state) = subject.survey.states.get(at.state) {
+        match end {
+            End::Source(source) => wrong_source(notes, state, source),
+            End::Target(target) => wrong_target(notes, state, &subject.spec.top, target),
+        }
     }
-    wrong_target(notes, subject, state, target_of(&at))
 }
 
 /// The innermost array around a state.
@@ -380,33 +407,29 @@ fn array_around<'a>(subject: &Subject<'a, '_>, state: &StateAt<'a>) -> Option<&'
     None
 }
 
-/// S13.
-pub fn wrong_array(notes: &mut Notes<'_>, subject: &Subject<'_, '_>) -> Result<(), NoMemory> {
-    let state = match state_of(subject) {
-        Some(state) => state,
-        None => return Ok(()),
-    };
-    if let Some(around) = array_around(subject, &state) {
-        return point_at(
-            notes,
-            state.name,
-            &[
-                Piece::Words("the array "),
-                Piece::Name(state.name),
-                Piece::Words(" lies inside the array "),
-                Piece::Name(around),
-                Piece::Words(", declared at "),
-                Piece::Place(around.at()),
-            ],
-        );
+/// Tells why an array may not stand where it does.
+fn tell_array<'a>(notes: &mut Notes<'_>, name: &'a Text, around: Option<&'a Text>) {
+    match around {
+        Some(around) => notes.fault_four(
+            spot_of(name),
+            "the array {} lies inside the array {}, declared at {}",
+            Piece::Name(name),
+            Piece::Name(around),
+            Piece::Place(around.at()),
+            Piece::Nothing,
+        ),
+        None => notes.fault(
+            spot_of(name),
+            "the array {} is a child of a `one` state; arrays are children of `all` states",
+            Piece::Name(name),
+            Piece::Nothing,
+        ),
     }
-    point_at(
-        notes,
-        state.name,
-        &[
-            Piece::Words("the array "),
-            Piece::Name(state.name),
-            Piece::Words(" is a child of a `one` state; arrays are children of `all` states"),
-        ],
-    )
+}
+
+/// S13.
+pub fn wrong_array(notes: &mut Notes<'_>, subject: &Subject<'_, '_>) {
+    if let Some(state) = state_of(subject) {
+        tell_array(notes, state.name, array_around(subject, &state));
+    }
 }

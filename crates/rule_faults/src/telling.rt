@@ -12,7 +12,7 @@ use source_notes::Notes;
 use source_survey::Survey;
 
 /// Tells what is wrong at the name where a rule is broken.
-fn tell_rule(notes: &mut Notes<'_>, rule: u8, subject: &Subject<'_, '_>) -> Result<(), NoMemory> {
+fn tell_rule(notes: &mut Notes<'_>, rule: u8, subject: &Subject<'_, '_>) {
     match rule {
         1 => declared_again(notes, subject),
         2 => undeclared(notes, subject),
@@ -34,12 +34,12 @@ fn tell_rule(notes: &mut Notes<'_>, rule: u8, subject: &Subject<'_, '_>) -> Resu
 }
 
 /// The same by the global names.
-fn tell_by(
+fn tell_by<'a>(
     notes: &mut Notes<'_>,
-    spec: &Spec,
-    globals: &Globals<'_>,
+    spec: &'a Spec,
+    globals: &Globals<'a>,
     rule: u8,
-    name: &Text,
+    name: &'a Text,
 ) -> Result<(), NoMemory> {
     let survey = Survey::new(notes.alloc(), spec)?;
     let subject = Subject {
@@ -48,7 +48,8 @@ fn tell_by(
         survey: &survey,
         name,
     };
-    tell_rule(notes, rule, &subject)
+    tell_rule(notes, rule, &subject);
+    Ok(())
 }
 
 /// Tells what is wrong at a name where a specification breaks the rule with this number.

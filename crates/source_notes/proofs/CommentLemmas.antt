@@ -22,12 +22,3 @@ one_more xs line are plain = record {
 pub followed : (xs line : List ℕ) → AreComments xs → IsTrue (is_one_line line) → AreComments (((xs ++ codes "# ") ++ line) ++ codes "\n")
 followed xs line are plain =
     subst AreComments (sym (append_assoc (xs ++ codes "# ") line (codes "\n") ∙ append_assoc xs (codes "# ") (line ++ codes "\n"))) (one_more xs line are plain)
-
--- comment lines behind others
-pub both : (xs ys : List ℕ) → AreComments xs → AreComments ys → AreComments (xs ++ ys)
-both xs ys are more = record {
-  lines = are.lines ++ more.lines;
-  plain = rw (list_all-append is_one_line are.lines more.lines, are.plain, more.plain) refl;
-  spelled = ap (λ zs. zs ++ ys) are.spelled ∙ ap (λ zs. flat_map comment are.lines ++ zs) more.spelled
-      ∙ sym (flat_map-append comment are.lines more.lines);
-}

@@ -2,16 +2,12 @@
 #![tactic(auto)]
 
 mod comments;
-mod joining;
-mod lists;
 mod notes;
 mod piece;
 mod places;
 
-pub use joining::put_comments;
-pub use lists::listed;
-pub use notes::Notes;
-pub use piece::Piece;
+pub use notes::{Notes, Spot, spot_of};
+pub use piece::{Piece, put_code, put_item, put_place};
 pub use places::{
     back, character_length, characters_in, column_of, front, line_of, line_start, token_text,
 };

@@ -2,10 +2,11 @@ ghost use Rattle.std.specs.Prelude.{◌≡◌, IfOk};
 ghost use Rattle.source_notes.specs.Comments.{AreComments};
 
 use crate::comments::{Comments, Line};
-use crate::piece::{Piece, put_pieces, put_place};
+use crate::piece::{Piece, put_form, put_place};
 use crate::places::{begins_character, characters_in, column_of, line_at, line_start};
-use rsml_base::{NoMemory, put};
+use rsml_base::{NoMemory, Text};
 use std::alloc::Global;
+use text_writer::{Draft, Writer};
 
 /// How many characters of a line are shown.
 const WIDTH: usize = 120;
@@ -13,14 +14,33 @@ const WIDTH: usize = 120;
 /// How many of them stand before the place that is told, where the line is cut.
 const BEFORE: usize = 60;
 
-/// Comment lines on a text.
+/// Comment lines on a text. Once memory is refused, lines may be missing; then `bytes` is out of memory.
 #[derive(Drop)]
 pub struct Notes<'t> {
     alloc: Global,
     file: &'t [u8],
     text: &'t [u8],
     comments: Comments,
+    is_refused: bool,
 }
+
+/// A part of a line of the text: the offset at which it begins, and its width in characters.
+#[derive(Clone, Copy)]
+pub struct Spot {
+    pub at: usize,
+    pub width: usize,
+}
+
+/// Where a name stands.
+pub fn spot_of(name: &Text) -> Spot {
+    Spot {
+        at: name.at() as usize,
+        width: characters_in(name.bytes()),
+    }
+}
+
+/// No piece at all.
+const NONE: [Piece<'static>; 4] = [Piece::Nothing; 4];
 
 /// The columns of a line that are shown, from 0, and whether something stands before them.
 #[derive(Clone, Copy)]
@@ -52,14 +72,9 @@ fn shown_byte(byte: u8, is_text: bool) -> u8 {
 }
 
 /// Puts what is shown of a line, so many bytes of which are UTF-8.
-fn put_window(
-    line: &mut Vec<u8>,
-    shown: &[u8],
-    window: Window,
-    valid: usize,
-) -> Result<(), NoMemory> {
+fn put_window(line: &mut Draft, shown: &[u8], window: Window, valid: usize) {
     if window.from > 0 {
-        put(line, b"...")?;
+        line.put(b"...");
     }
     let mut next: usize = 0;
     for (place, byte) in shown.iter().enumerate() {
@@ -68,39 +83,32 @@ fn put_window(
             next = next.saturating_add(1);
         }
         if window.from < next && next <= window.to {
-            line.push(shown_byte(*byte, is_text))?;
+            line.put(&[shown_byte(*byte, is_text)]);
         }
     }
     if next > window.to {
-        put(line, b"...")?;
+        line.put(b"...");
     }
-    Ok(())
 }
 
 /// Puts the blanks that stand below what is shown before a column.
-fn put_blanks(
-    line: &mut Vec<u8>,
-    shown: &[u8],
-    window: Window,
-    column: usize,
-) -> Result<(), NoMemory> {
+fn put_blanks(line: &mut Draft, shown: &[u8], window: Window, column: usize) {
     if window.from > 0 {
-        put(line, b"   ")?;
+        line.put(b"   ");
     }
     let mut next: usize = 0;
     for byte in shown {
         if begins_character(*byte) {
             next = next.saturating_add(1);
             if window.from < next && next < column {
-                line.push(if *byte == b'\t' { b'\t' } else { b' ' })?;
+                line.put(if *byte == b'\t' { b"\t" } else { b" " });
             }
         }
     }
     // Behind the end of the line.
     for _ in next.saturating_add(1)..column {
-        line.push(b' ')?;
+        line.put(b" ");
     }
-    Ok(())
 }
 
 impl<'t> Notes<'t> {
@@ -110,6 +118,7 @@ impl<'t> Notes<'t> {
             file,
             text,
             comments: Comments::new(alloc),
+            is_refused: false,
         }
     }
 
@@ -127,64 +136,153 @@ impl<'t> Notes<'t> {
     }
 
     /// A line with these bytes.
-    pub fn add(&mut self, bytes: &[u8]) -> Result<(), NoMemory> {
-        let line = Line::new(self.alloc, bytes)?;
+    fn add(&mut self, line: Draft) -> Result<(), NoMemory> {
+        let bytes = line.finish()?;
+        let line = Line::new(self.alloc, bytes.as_slice())?;
         self.comments.add(line)
     }
 
-    /// A line with these pieces.
-    pub fn say(&mut self, pieces: &[Piece<'_>]) -> Result<(), NoMemory> {
-        let mut line = Vec::new(self.alloc);
-        put(&mut line, b"  ")?;
-        put_pieces(&mut line, self.text, pieces)?;
-        self.add(line.as_slice())
-    }
-
-    /// `FILE:LINE:COLUMN: ` and these pieces.
-    fn head(&mut self, at: usize, pieces: &[Piece<'_>]) -> Result<(), NoMemory> {
-        let mut line = Vec::from_slice(self.alloc, self.file)?;
-        put(&mut line, b":")?;
-        put_place(&mut line, self.text, at)?;
-        put(&mut line, b": ")?;
-        put_pieces(&mut line, self.text, pieces)?;
-        self.add(line.as_slice())
-    }
-
-    /// The source line, so many bytes of which are UTF-8, and a line with carets below some characters of it.
-    fn shown(&mut self, at: usize, width: usize, valid: usize) -> Result<(), NoMemory> {
-        let source = line_at(self.text, at);
-        let column = column_of(self.text, at);
-        let window = window_of(characters_in(source), column);
-        let mut line = Vec::new(self.alloc);
-        put(&mut line, b"    ")?;
-        put_window(&mut line, source, window, valid)?;
-        self.add(line.as_slice())?;
-        let mut line = Vec::new(self.alloc);
-        put(&mut line, b"    ")?;
-        put_blanks(&mut line, source, window, column)?;
-        for _ in 0..width.max(1).min(WIDTH) {
-            line.push(b'^')?;
+    /// A line that was put together.
+    pub fn keep(&mut self, line: Draft) {
+        if self.add(line).is_err() {
+            self.is_refused = true;
         }
-        self.add(line.as_slice())
     }
 
-    /// A fault at an offset, which is shown with so many carets.
-    pub fn point(&mut self, at: usize, width: usize, pieces: &[Piece<'_>]) -> Result<(), NoMemory> {
-        self.head(at, pieces)?;
-        self.shown(at, width, usize::MAX)
+    /// A line that begins with these words, to be put together and kept.
+    pub fn line(&self, words: &str) -> Draft {
+        let mut line = Draft::new(self.alloc);
+        line.put(words.as_bytes());
+        line
     }
 
-    /// A fault at a byte that belongs to no character.
-    pub fn point_at_byte(&mut self, at: usize, pieces: &[Piece<'_>]) -> Result<(), NoMemory> {
-        self.head(at, pieces)?;
+    /// A sentence on a line.
+    fn sentence(&mut self, form: &str, gaps: [Piece<'_>; 4]) {
+        let mut line = self.line("  ");
+        put_form(&mut line, self.text, form, gaps);
+        self.keep(line);
+    }
+
+    /// One more line with a sentence, indented.
+    pub fn say(&mut self, words: &str) {
+        self.sentence(words, NONE);
+    }
+
+    /// The same with one piece that fills the gap `{}`.
+    pub fn say_one(&mut self, form: &str, one: Piece<'_>) {
+        self.sentence(form, [one, Piece::Nothing, Piece::Nothing, Piece::Nothing]);
+    }
+
+    /// The same with two pieces that fill the gaps in their order.
+    pub fn say_two<'p>(&mut self, form: &str, one: Piece<'p>, two: Piece<'p>) {
+        self.sentence(form, [one, two, Piece::Nothing, Piece::Nothing]);
+    }
+
+    /// The same with up to four pieces.
+    pub fn say_four<'p>(
+        &mut self,
+        form: &str,
+        one: Piece<'p>,
+        two: Piece<'p>,
+        three: Piece<'p>,
+        four: Piece<'p>,
+    ) {
+        self.sentence(form, [one, two, three, four]);
+    }
+
+    /// A line that begins with `FILE:LINE:COLUMN: ` and a word.
+    fn line_at(&self, at: usize, word: &str) -> Draft {
+        let mut line = Draft::new(self.alloc);
+        line.put(self.file);
+        line.put(b":");
+        put_place(&mut line, self.text, at);
+        line.put(b": ");
+        line.put(word.as_bytes());
+        line
+    }
+
+    /// `FILE:LINE:COLUMN: `, a word and a sentence.
+    fn head(&mut self, at: usize, word: &str, form: &str, gaps: [Piece<'_>; 4]) {
+        let mut line = self.line_at(at, word);
+        put_form(&mut line, self.text, form, gaps);
+        self.keep(line);
+    }
+
+    /// A line that begins as that of a note at an offset, to be put together and kept with the source line.
+    pub fn note_line(&self, at: usize) -> Draft {
+        self.line_at(at, "note: ")
+    }
+
+    /// A line that was put together, and the source line of the part of the text that it is said of.
+    pub fn keep_at(&mut self, line: Draft, spot: Spot) {
+        self.keep(line);
+        self.shown(spot, usize::MAX);
+    }
+
+    /// The source line, so many bytes of which are UTF-8, and a line with carets below a part of it.
+    fn shown(&mut self, spot: Spot, valid: usize) {
+        let source = line_at(self.text, spot.at);
+        let column = column_of(self.text, spot.at);
+        let window = window_of(characters_in(source), column);
+        let mut line = self.line("    ");
+        put_window(&mut line, source, window, valid);
+        self.keep(line);
+        let mut line = self.line("    ");
+        put_blanks(&mut line, source, window, column);
+        for _ in 0..spot.width.max(1).min(WIDTH) {
+            line.put(b"^");
+        }
+        self.keep(line);
+    }
+
+    /// A fault at a part of the text, with up to two pieces.
+    pub fn fault<'p>(&mut self, spot: Spot, form: &str, one: Piece<'p>, two: Piece<'p>) {
+        self.fault_four(spot, form, one, two, Piece::Nothing, Piece::Nothing);
+    }
+
+    /// The same with up to four pieces.
+    pub fn fault_four<'p>(
+        &mut self,
+        spot: Spot,
+        form: &str,
+        one: Piece<'p>,
+        two: Piece<'p>,
+        three: Piece<'p>,
+        four: Piece<'p>,
+    ) {
+        self.head(spot.at, "error: ", form, [one, two, three, four]);
+        self.shown(spot, usize::MAX);
+    }
+
+    /// A fault at a byte that belongs to no character, with one piece.
+    pub fn fault_at_byte(&mut self, at: usize, form: &str, one: Piece<'_>) {
+        let gaps = [one, Piece::Nothing, Piece::Nothing, Piece::Nothing];
+        self.head(at, "error: ", form, gaps);
         let valid = at.saturating_sub(line_start(self.text, at));
-        self.shown(at, 1, valid)
+        self.shown(Spot { at, width: 1 }, valid);
+    }
+
+    /// A note at a part of the text, with up to four pieces.
+    pub fn note<'p>(
+        &mut self,
+        spot: Spot,
+        form: &str,
+        one: Piece<'p>,
+        two: Piece<'p>,
+        three: Piece<'p>,
+        four: Piece<'p>,
+    ) {
+        self.head(spot.at, "note: ", form, [one, two, three, four]);
+        self.shown(spot, usize::MAX);
     }
 
     /// The bytes of all lines.
     pub fn bytes(&self) -> Result<Vec<u8>, NoMemory>
         ensures { IfOk result (λ v. AreComments v.items) }
     {
+        if self.is_refused {
+            return Err(NoMemory);
+        }
         self.comments.bytes(self.alloc)
     }
 }

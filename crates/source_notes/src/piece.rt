@@ -1,9 +1,11 @@
 use crate::places::{column_of, line_of};
-use rsml_base::{NoMemory, Text, put, put_number};
+use rsml_base::Text;
+use text_writer::{Draft, Writer, put_number, put_signed};
 
-/// A piece of a sentence.
+/// What fills a gap of a sentence.
 #[derive(Clone, Copy)]
 pub enum Piece<'a> {
+    Nothing,
     Words(&'a str),
     /// A name, in backquotes.
     Name(&'a Text),
@@ -16,43 +18,69 @@ pub enum Piece<'a> {
 }
 
 /// Puts a text in backquotes.
-fn put_code(line: &mut Vec<u8>, code: &[u8]) -> Result<(), NoMemory> {
-    put(line, b"`")?;
-    put(line, code)?;
-    put(line, b"`")
-}
-
-/// Puts a number with its sign.
-fn put_signed(line: &mut Vec<u8>, number: i64) -> Result<(), NoMemory> {
-    if number < 0 {
-        put(line, b"-")?;
-    }
-    put_number(line, number.unsigned_abs())
+pub fn put_code(line: &mut Draft, code: &[u8]) {
+    line.put(b"`");
+    line.put(code);
+    line.put(b"`");
 }
 
 /// Puts `LINE:COLUMN` of an offset.
-pub fn put_place(line: &mut Vec<u8>, text: &[u8], at: usize) -> Result<(), NoMemory> {
-    put_number(line, line_of(text, at) as u64)?;
-    put(line, b":")?;
-    put_number(line, column_of(text, at) as u64)
+pub fn put_place(line: &mut Draft, text: &[u8], at: usize) {
+    put_number(line, line_of(text, at) as u64);
+    line.put(b":");
+    put_number(line, column_of(text, at) as u64);
 }
 
 /// Puts a piece of a sentence on a text.
-fn put_piece(line: &mut Vec<u8>, text: &[u8], piece: &Piece<'_>) -> Result<(), NoMemory> {
+fn put_piece(line: &mut Draft, text: &[u8], piece: Piece<'_>) {
     match piece {
-        Piece::Words(words) => put(line, words.as_bytes()),
+        Piece::Nothing => {}
+        Piece::Words(words) => line.put(words.as_bytes()),
         Piece::Name(name) => put_code(line, name.bytes()),
         Piece::Code(code) => put_code(line, code),
-        Piece::Count(count) => put_number(line, *count as u64),
-        Piece::Number(number) => put_signed(line, *number),
-        Piece::Place(at) => put_place(line, text, *at as usize),
+        Piece::Count(count) => put_number(line, count as u64),
+        Piece::Number(number) => put_signed(line, number),
+        Piece::Place(at) => put_place(line, text, at as usize),
     }
 }
 
-/// Puts the pieces of a sentence on a text.
-pub fn put_pieces(line: &mut Vec<u8>, text: &[u8], pieces: &[Piece<'_>]) -> Result<(), NoMemory> {
-    for piece in pieces {
-        put_piece(line, text, piece)?;
+/// Puts the piece at a place of four.
+fn put_gap(line: &mut Draft, text: &[u8], place: usize, gaps: [Piece<'_>; 4]) {
+    match gaps.get(place) {
+        Some(piece) => put_piece(line, text, *piece),
+        None => {}
     }
-    Ok(())
+}
+
+/// Puts a sentence on a text. Pieces fill its gaps, which are written `{}`, in their order.
+pub fn put_form(line: &mut Draft, text: &[u8], form: &str, gaps: [Piece<'_>; 4]) {
+    let mut place: usize = 0;
+    let mut opened = false;
+    for byte in form.as_bytes() {
+        if opened && *byte == b'}' {
+            put_gap(line, text, place, gaps);
+            place = place.saturating_add(1);
+        } else if opened {
+            line.put(b"{");
+        }
+        if !opened && *byte != b'{' || opened && *byte != b'}' {
+            line.put(&[*byte]);
+        }
+        opened = !opened && *byte == b'{';
+    }
+}
+
+/// What stands behind an item of a list: a comma, a word before the last, nothing behind that.
+fn behind(place: usize, count: usize, last: &'static str) -> &'static str {
+    match count.saturating_sub(place) {
+        0 | 1 => "",
+        2 => last,
+        _ => ", ",
+    }
+}
+
+/// Puts the name at a place of a list of so many, in backquotes, with what stands between it and the next.
+pub fn put_item(line: &mut Draft, place: usize, count: usize, last: &'static str, name: &[u8]) {
+    put_code(line, name);
+    line.put(behind(place, count, last).as_bytes());
 }

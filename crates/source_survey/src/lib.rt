@@ -4,6 +4,6 @@
 mod survey;
 
 pub use survey::{
-    Around, BusAt, Declared, InPath, OwnedSum, Sized, Sort, Space, StateAt, Survey, Table,
-    TransitionAt, Use, index_of, rows_in, simple_in, sort_of,
+    Around, Declared, InPath, OwnedSum, Sized, Sort, Space, StateAt, Survey, Table, TransitionAt,
+    Use, index_of, sort_of,
 };

@@ -1,10 +1,10 @@
 //! What stands in a specification, as lists in the order of the text.
 
 use rsml_base::{NoMemory, Text};
-use rsml_names::{name_of, rows_of, simple_of, size_of, values_of};
+use rsml_names::{answered, buses_of, name_of, size_of, transitions_of, values_of};
 use rsml_syntax::{
-    Amount, Answer, Body, Bus, Case, Decl, Guard, Index, Initial, Mention, Operand, Phrase, Row,
-    SendCase, Simple, Spec, StateDecl, Sum, Transition, Value, Want,
+    Amount, Body, Case, Decl, Guard, Index, Initial, Mention, Operand, Phrase, Row, SendCase,
+    Simple, Spec, StateDecl, Sum, Transition, Value, Want,
 };
 use std::alloc::Global;
 
@@ -70,13 +70,6 @@ pub struct TransitionAt<'a> {
     pub state: usize,
 }
 
-/// A bus, and the place of its component among the states.
-#[derive(Clone, Copy)]
-pub struct BusAt<'a> {
-    pub bus: &'a Bus,
-    pub state: usize,
-}
-
 /// What a name is declared as.
 #[derive(Clone, Copy, PartialEq, Eq)]
 pub enum Sort {
@@ -139,7 +132,6 @@ pub struct Declared<'a> {
 }
 
 /// What stands in a specification.
-#[derive(Drop)]
 pub struct Survey<'a> {
     pub declared: Vec<Declared<'a>>,
     pub uses: Vec<Use<'a>>,
@@ -147,10 +139,24 @@ pub struct Survey<'a> {
     pub sums: Vec<OwnedSum<'a>>,
     pub paths: Vec<InPath<'a>>,
     pub states: Vec<StateAt<'a>>,
-    pub buses: Vec<BusAt<'a>>,
     pub transitions: Vec<TransitionAt<'a>>,
-    /// The lists of receives, and what transitions raise.
-    pub lists: Vec<&'a [Mention]>,
+    /// Whether memory was refused: then something is missing.
+    is_refused: bool,
+}
+
+impl Drop for Survey<'_> {
+    fn drop(self) {
+        let Self {
+            declared: _,
+            uses: _,
+            tables: _,
+            sums: _,
+            paths: _,
+            states: _,
+            transitions: _,
+            is_refused: _,
+        } = self;
+    }
 }
 
 /// What a declaration declares.
@@ -168,13 +174,18 @@ pub fn sort_of(decl: &Decl) -> Sort {
     }
 }
 
-/// What is around the contents of something with a size.
-fn around_of<'a>(name: &'a Text, size: Option<&'a Amount>) -> Around<'a> {
+/// What a name stands for that has a size.
+fn with_size<'a>(name: &'a Text, size: Option<&'a Amount>) -> Option<Sized<'a>> {
+    match size {
+        Some(size) => Some(Sized { name, size }),
+        None => None,
+    }
+}
+
+/// What is around a place outside quantifiers.
+fn inside<'a>(array: Option<Sized<'a>>) -> Around<'a> {
     Around {
-        array: match size {
-            Some(size) => Some(Sized { name, size }),
-            None => None,
-        },
+        array,
         variable: None,
     }
 }
@@ -189,12 +200,61 @@ impl<'a> Survey<'a> {
             sums: Vec::new(alloc),
             paths: Vec::new(alloc),
             states: Vec::new(alloc),
-            buses: Vec::new(alloc),
             transitions: Vec::new(alloc),
-            lists: Vec::new(alloc),
+            is_refused: false,
         };
+        survey.specification(spec);
+        if survey.is_refused {
+            return Err(NoMemory);
+        }
+        Ok(survey)
+    }
+
+    fn declare(&mut self, declared: Declared<'a>) {
+        if self.declared.push(declared).is_err() {
+            self.is_refused = true;
+        }
+    }
+
+    fn used(&mut self, used: Use<'a>) {
+        if self.uses.push(used).is_err() {
+            self.is_refused = true;
+        }
+    }
+
+    fn own_sum(&mut self, owned: OwnedSum<'a>) {
+        if self.sums.push(owned).is_err() {
+            self.is_refused = true;
+        }
+    }
+
+    fn own_table(&mut self, table: Table<'a>) {
+        if self.tables.push(table).is_err() {
+            self.is_refused = true;
+        }
+    }
+
+    fn path(&mut self, path: InPath<'a>) {
+        if self.paths.push(path).is_err() {
+            self.is_refused = true;
+        }
+    }
+
+    fn own_state(&mut self, state: StateAt<'a>) {
+        if self.states.push(state).is_err() {
+            self.is_refused = true;
+        }
+    }
+
+    fn own_transition(&mut self, at: TransitionAt<'a>) {
+        if self.transitions.push(at).is_err() {
+            self.is_refused = true;
+        }
+    }
+
+    fn specification(&mut self, spec: &'a Spec) {
         for decl in spec.decls.as_slice() {
-            survey.declaration(decl)?;
+            self.declaration(decl);
         }
         let top = StateAt {
             name: &spec.top,
@@ -202,261 +262,185 @@ impl<'a> Survey<'a> {
             body: &spec.body,
             parent: None,
         };
-        survey.state(top, &spec.body, None)?;
-        Ok(survey)
+        self.state(top, &spec.body, None);
     }
 
-    fn declare(
-        &mut self,
-        name: &'a Text,
-        sort: Sort,
-        space: Space,
-        size: Option<&'a Amount>,
-    ) -> Result<(), NoMemory> {
-        self.declared.push(Declared {
-            name,
-            sort,
-            space,
-            size,
-        })?;
-        Ok(())
+    /// Names without size.
+    fn plain_names(&mut self, names: &'a [Text], sort: Sort, space: Space) {
+        for name in names {
+            self.declare(Declared {
+                name,
+                sort,
+                space,
+                size: None,
+            });
+        }
     }
 
-    fn used(&mut self, name: &'a Text, want: Want, around: Around<'a>) -> Result<(), NoMemory> {
-        self.uses.push(Use {
+    fn named(&mut self, name: &'a Text, want: Want, around: Around<'a>) {
+        self.used(Use {
             name,
             mention: None,
             want,
             around,
-        })?;
-        Ok(())
+        });
     }
 
-    fn mentioned(
-        &mut self,
-        mention: &'a Mention,
-        want: Want,
-        around: Around<'a>,
-    ) -> Result<(), NoMemory> {
-        self.uses.push(Use {
+    fn mentioned(&mut self, mention: &'a Mention, want: Want, around: Around<'a>) {
+        self.used(Use {
             name: &mention.name,
             mention: Some(mention),
             want,
             around,
-        })?;
-        Ok(())
+        });
     }
 
-    fn each_mentioned(
-        &mut self,
-        mentions: &'a [Mention],
-        want: Want,
-        around: Around<'a>,
-    ) -> Result<(), NoMemory> {
-        self.lists.push(mentions)?;
+    fn each_mentioned(&mut self, mentions: &'a [Mention], want: Want, around: Around<'a>) {
         for mention in mentions {
-            self.mentioned(mention, want, around)?;
+            self.mentioned(mention, want, around);
         }
-        Ok(())
     }
 
-    fn amount(&mut self, amount: &'a Amount, around: Around<'a>) -> Result<(), NoMemory> {
+    fn amount(&mut self, amount: &'a Amount, around: Around<'a>) {
         match amount {
-            Amount::Number(_) => Ok(()),
-            Amount::Name(name) => self.used(name, Want::Constant, around),
+            Amount::Number(_) => {}
+            Amount::Name(name) => self.named(name, Want::Constant, around),
         }
     }
 
-    fn size(&mut self, size: Option<&'a Amount>, around: Around<'a>) -> Result<(), NoMemory> {
-        match size {
-            Some(size) => self.amount(size, around),
-            None => Ok(()),
+    fn operand(&mut self, operand: &'a Operand, around: Around<'a>) {
+        match operand {
+            Operand::Number(_) => {}
+            Operand::Mention(mention) => self.mentioned(mention, Want::Operand, around),
+            Operand::Previous(mention) => self.mentioned(mention, Want::Input, around),
         }
     }
 
-    fn sum(&mut self, sum: &'a Sum, around: Around<'a>) -> Result<(), NoMemory> {
+    fn sum(&mut self, sum: &'a Sum, around: Around<'a>) {
         for term in sum.terms.as_slice() {
-            match &term.operand {
-                Operand::Number(_) => {}
-                Operand::Mention(mention) => self.mentioned(mention, Want::Operand, around)?,
-                Operand::Previous(mention) => self.mentioned(mention, Want::Input, around)?,
-            }
+            self.operand(&term.operand, around);
         }
-        Ok(())
     }
 
-    fn simple(&mut self, simple: &'a Simple, around: Around<'a>) -> Result<(), NoMemory> {
+    fn simple(&mut self, simple: &'a Simple, around: Around<'a>) {
         match simple {
-            Simple::In(path) => {
-                self.paths.push(InPath {
-                    steps: path.as_slice(),
-                    around,
-                })?;
-                Ok(())
-            }
+            Simple::In(path) => self.path(InPath {
+                steps: path.as_slice(),
+                around,
+            }),
             Simple::Macro(mention) => self.mentioned(mention, Want::Macro, around),
             Simple::Compare { left, right, .. } => {
-                self.sum(left, around)?;
-                self.sum(right, around)
+                self.sum(left, around);
+                self.sum(right, around);
             }
             Simple::Function {
                 function,
                 right,
                 ..
             } => {
-                self.mentioned(function, Want::Function, around)?;
-                self.sum(right, around)
+                self.mentioned(function, Want::Function, around);
+                self.sum(right, around);
             }
         }
     }
 
-    fn quantified(
-        &mut self,
-        variable: &'a Text,
-        bound: &'a Amount,
-        body: &'a Simple,
-        around: Around<'a>,
-    ) -> Result<(), NoMemory> {
-        self.declare(variable, Sort::Variable, Space::Global, Some(bound))?;
-        self.amount(bound, around)?;
+    fn quantified(&mut self, variable: Sized<'a>, body: &'a Simple, around: Around<'a>) {
+        self.declare(Declared {
+            name: variable.name,
+            sort: Sort::Variable,
+            space: Space::Global,
+            size: Some(variable.size),
+        });
+        self.amount(variable.size, around);
         let around = Around {
             array: around.array,
-            variable: Some(Sized {
-                name: variable,
-                size: bound,
-            }),
+            variable: Some(variable),
         };
-        self.simple(body, around)
+        self.simple(body, around);
     }
 
-    fn phrase(&mut self, phrase: &'a Phrase, around: Around<'a>) -> Result<(), NoMemory> {
-        match phrase {
-            Phrase::Plain(body) => self.simple(body, around),
+    fn phrase(&mut self, phrase: &'a Phrase, around: Around<'a>) {
+        let (name, size, body) = match phrase {
+            Phrase::Plain(body) => return self.simple(body, around),
             Phrase::Any {
                 variable,
                 bound,
                 body,
-            } => self.quantified(variable, bound, body, around),
+            } => (variable, bound, body),
             Phrase::Every {
                 variable,
                 bound,
                 body,
-            } => self.quantified(variable, bound, body, around),
-        }
+            } => (variable, bound, body),
+        };
+        self.quantified(Sized { name, size }, body, around);
     }
 
-    fn table(
-        &mut self,
-        owner: &'a Text,
-        rows: &'a [Row],
-        around: Around<'a>,
-    ) -> Result<(), NoMemory> {
-        self.tables.push(Table { owner, rows })?;
+    fn table(&mut self, owner: &'a Text, rows: &'a [Row], around: Around<'a>) {
+        self.own_table(Table { owner, rows });
         for row in rows {
-            self.phrase(&row.phrase, around)?;
+            self.phrase(&row.phrase, around);
         }
-        Ok(())
     }
 
-    fn guard(
-        &mut self,
-        owner: &'a Text,
-        guard: &'a Guard,
-        around: Around<'a>,
-    ) -> Result<(), NoMemory> {
+    fn guard(&mut self, owner: &'a Text, guard: &'a Guard, around: Around<'a>) {
         match guard {
-            Guard::Always => Ok(()),
+            Guard::Always => {}
             Guard::Table(rows) => self.table(owner, rows.as_slice(), around),
         }
     }
 
-    fn owned_sum(
-        &mut self,
-        owner: &'a Text,
-        sum: &'a Sum,
-        around: Around<'a>,
-    ) -> Result<(), NoMemory> {
-        self.sums.push(OwnedSum { owner, sum })?;
-        self.sum(sum, around)
+    fn owned_sum(&mut self, owner: &'a Text, sum: &'a Sum, around: Around<'a>) {
+        self.own_sum(OwnedSum { owner, sum });
+        self.sum(sum, around);
     }
 
-    fn cases(
-        &mut self,
-        owner: &'a Text,
-        cases: &'a [Case],
-        around: Around<'a>,
-    ) -> Result<(), NoMemory> {
+    fn cases(&mut self, owner: &'a Text, cases: &'a [Case], around: Around<'a>) {
         for case in cases {
-            self.owned_sum(owner, &case.value, around)?;
-            self.guard(owner, &case.guard, around)?;
+            self.owned_sum(owner, &case.value, around);
+            self.guard(owner, &case.guard, around);
         }
-        Ok(())
     }
 
-    fn value(
-        &mut self,
-        owner: &'a Text,
-        value: &'a Value,
-        around: Around<'a>,
-    ) -> Result<(), NoMemory> {
+    fn value(&mut self, owner: &'a Text, value: &'a Value, around: Around<'a>) {
         match value {
             Value::Sum(sum) => self.owned_sum(owner, sum, around),
             Value::Function(function) => self.mentioned(function, Want::Function, around),
         }
     }
 
-    fn answer(
-        &mut self,
-        owner: &'a Text,
-        answer: &'a Answer,
-        around: Around<'a>,
-    ) -> Result<(), NoMemory> {
-        match answer {
-            Answer::Quiet => {}
-            Answer::Values(values) => {
-                for value in values.as_slice() {
-                    self.value(owner, value, around)?;
-                }
-            }
+    fn send_case(&mut self, owner: &'a Text, case: &'a SendCase, around: Around<'a>) {
+        self.mentioned(&case.trigger, Want::Event, around);
+        self.guard(owner, &case.guard, around);
+        for value in answered(&case.answer) {
+            self.value(owner, value, around);
         }
-        Ok(())
     }
 
-    fn send_cases(
-        &mut self,
-        owner: &'a Text,
-        cases: &'a [SendCase],
-        around: Around<'a>,
-    ) -> Result<(), NoMemory> {
+    fn send_cases(&mut self, owner: &'a Text, cases: &'a [SendCase], around: Around<'a>) {
         for case in cases {
-            self.mentioned(&case.trigger, Want::Event, around)?;
-            self.guard(owner, &case.guard, around)?;
-            self.answer(owner, &case.answer, around)?;
+            self.send_case(owner, case, around);
         }
-        Ok(())
     }
 
-    fn fields(&mut self, owner: &'a Text, fields: &'a [Text]) -> Result<(), NoMemory> {
-        for field in fields {
-            self.declare(field, Sort::Field, Space::Send(owner.at()), None)?;
+    fn initial(&mut self, initial: &'a Initial, around: Around<'a>) {
+        match initial {
+            Initial::Number(_) => {}
+            Initial::Name(name) => self.named(name, Want::Initial, around),
         }
-        Ok(())
     }
 
-    fn contents(&mut self, decl: &'a Decl, around: Around<'a>) -> Result<(), NoMemory> {
+    fn contents(&mut self, decl: &'a Decl, around: Around<'a>) {
         match decl {
             Decl::Input { kind, initial, .. } => {
-                self.used(kind, Want::Type, around)?;
-                match initial {
-                    Initial::Number(_) => Ok(()),
-                    Initial::Name(name) => self.used(name, Want::Initial, around),
-                }
+                self.named(kind, Want::Type, around);
+                self.initial(initial, around);
             }
             Decl::Macro { name, rows, .. } => self.table(name, rows.as_slice(), around),
             Decl::Function { name, cases, .. } => self.cases(name, cases.as_slice(), around),
             Decl::Receive { inputs, raised, .. } => {
-                self.each_mentioned(inputs.as_slice(), Want::Input, around)?;
-                self.mentioned(raised, Want::Event, around)
+                self.each_mentioned(inputs.as_slice(), Want::Input, around);
+                self.mentioned(raised, Want::Event, around);
             }
             Decl::Send {
                 name,
@@ -464,127 +448,97 @@ impl<'a> Survey<'a> {
                 cases,
                 ..
             } => {
-                self.fields(name, fields.as_slice())?;
-                self.send_cases(name, cases.as_slice(), around)
+                self.plain_names(fields.as_slice(), Sort::Field, Space::Send(name.at()));
+                self.send_cases(name, cases.as_slice(), around);
             }
-            _ => Ok(()),
+            _ => {}
         }
     }
 
-    fn declaration(&mut self, decl: &'a Decl) -> Result<(), NoMemory> {
+    fn declaration(&mut self, decl: &'a Decl) {
         let name = name_of(decl);
         let size = size_of(decl);
-        let around = around_of(name, size);
-        self.declare(name, sort_of(decl), Space::Global, size)?;
-        for value in values_of(decl) {
-            self.declare(value, Sort::EnumerationValue, Space::Global, None)?;
+        self.declare(Declared {
+            name,
+            sort: sort_of(decl),
+            space: Space::Global,
+            size,
+        });
+        self.plain_names(values_of(decl), Sort::EnumerationValue, Space::Global);
+        let around = inside(with_size(name, size));
+        if let Some(size) = size {
+            self.amount(size, around);
         }
-        self.size(size, around)?;
-        self.contents(decl, around)
+        self.contents(decl, around);
     }
 
-    fn each_bus(&mut self, buses: &'a [Bus], place: usize) -> Result<(), NoMemory> {
-        for bus in buses {
-            self.declare(&bus.name, Sort::Bus, Space::State(place), None)?;
-            self.buses.push(BusAt { bus, state: place })?;
-        }
-        Ok(())
+    fn transition(&mut self, at: TransitionAt<'a>, around: Around<'a>) {
+        let transition = at.transition;
+        self.own_transition(at);
+        self.mentioned(&transition.trigger, Want::Event, around);
+        self.guard(&transition.source, &transition.guard, around);
+        self.each_mentioned(transition.raises.as_slice(), Want::Event, around);
     }
 
-    fn each_transition(
-        &mut self,
-        transitions: &'a [Transition],
-        place: usize,
-        around: Around<'a>,
-    ) -> Result<(), NoMemory> {
-        for transition in transitions {
-            self.transitions.push(TransitionAt {
-                transition,
-                state: place,
-            })?;
-            self.mentioned(&transition.trigger, Want::Event, around)?;
-            self.guard(&transition.source, &transition.guard, around)?;
-            self.each_mentioned(transition.raises.as_slice(), Want::Event, around)?;
+    /// The buses and the transitions of the state at a place.
+    fn component(&mut self, body: &'a Body, state: usize, around: Around<'a>) {
+        for bus in buses_of(body) {
+            self.declare(Declared {
+                name: &bus.name,
+                sort: Sort::Bus,
+                space: Space::State(state),
+                size: None,
+            });
         }
-        Ok(())
+        for transition in transitions_of(body) {
+            self.transition(TransitionAt { transition, state }, around);
+        }
     }
 
     /// A state with all that is in it: this is its body.
     #[cycle(survey)]
-    fn state(
-        &mut self,
-        state: StateAt<'a>,
-        body: &'a Body,
-        array: Option<Sized<'a>>,
-    ) -> Result<(), NoMemory> {
+    fn state(&mut self, state: StateAt<'a>, body: &'a Body, array: Option<Sized<'a>>) {
         let place = self.states.len();
-        self.states.push(state)?;
-        let array = match state.size {
-            Some(size) => Some(Sized {
-                name: state.name,
-                size,
-            }),
-            None => array,
-        };
-        let around = Around {
-            array,
-            variable: None,
-        };
-        self.size(state.size, around)?;
-        match body {
-            Body::Basic => Ok(()),
-            Body::All { children } => self.children(children.as_slice(), place, array),
-            Body::One {
-                children,
-                buses,
-                transitions,
-                ..
-            } => {
-                self.children(children.as_slice(), place, array)?;
-                self.each_bus(buses.as_slice(), place)?;
-                self.each_transition(transitions.as_slice(), place, around)
-            }
+        self.own_state(state);
+        let array = with_size(state.name, state.size).or(array);
+        let around = inside(array);
+        if let Some(size) = state.size {
+            self.amount(size, around);
         }
+        match body {
+            Body::Basic => {}
+            Body::All { children } => self.children(children.as_slice(), place, array),
+            Body::One { children, .. } => self.children(children.as_slice(), place, array),
+        }
+        self.component(body, place, around);
     }
 
     #[cycle(survey)]
-    fn children(
-        &mut self,
-        children: &'a [StateDecl],
-        place: usize,
-        array: Option<Sized<'a>>,
-    ) -> Result<(), NoMemory> {
+    fn children(&mut self, children: &'a [StateDecl], place: usize, array: Option<Sized<'a>>) {
         for child in children {
             let size = child.size.as_ref();
-            let sort = if size.is_some() {
-                Sort::Array
-            } else {
-                Sort::State
-            };
-            self.declare(&child.name, sort, Space::State(place), size)?;
+            self.declare(Declared {
+                name: &child.name,
+                sort: if size.is_some() {
+                    Sort::Array
+                } else {
+                    Sort::State
+                },
+                space: Space::State(place),
+                size,
+            });
             let state = StateAt {
                 name: &child.name,
                 size,
                 body: &child.body,
                 parent: Some(place),
             };
-            self.state(state, &child.body, array)?;
+            self.state(state, &child.body, array);
         }
-        Ok(())
     }
 }
 
 /// The index of a mention.
 pub fn index_of(mention: &Mention) -> Option<&Index> {
     mention.index.as_ref()
-}
-
-/// What a row says, its quantifier taken off.
-pub fn simple_in(row: &Row) -> &Simple {
-    simple_of(&row.phrase)
-}
-
-/// The rows of a guard.
-pub fn rows_in(guard: &Guard) -> &[Row] {
-    rows_of(guard)
 }

@@ -2,7 +2,7 @@
 
 use rsml_base::{NoMemory, Text};
 use rsml_names::{Globals, values_of};
-use rsml_syntax::{Decl, Index, Mention, SendCase, Spec, Transition};
+use rsml_syntax::{Decl, Index, Mention, SendCase, Transition};
 use source_survey::{Survey, index_of};
 use std::alloc::Global;
 
@@ -62,39 +62,33 @@ pub struct Usages<'s, 'a> {
     all: Vec<Usage>,
 }
 
-/// Counts a use of the name at a place.
-fn count(all: &mut Vec<Usage>, place: Option<usize>, manner: Manner) {
-    let place = match place {
-        Some(place) => place,
-        None => return,
-    };
-    if place < all.len() {
-        let usage = all[place];
-        all[place] = usage.and(manner);
-    }
-}
-
 impl<'s, 'a> Usages<'s, 'a> {
-    /// The uses in a specification.
-    pub fn new(
-        alloc: Global,
-        spec: &Spec,
-        globals: &'s Globals<'a>,
-        survey: &Survey<'_>,
-    ) -> Result<Usages<'s, 'a>, NoMemory> {
-        let mut usages = Usages {
+    /// None so far.
+    pub fn new(alloc: Global, globals: &'s Globals<'a>) -> Result<Usages<'s, 'a>, NoMemory> {
+        Ok(Usages {
             globals,
             all: vec![in alloc; UNUSED; globals.count()]?,
-        };
-        usages.each_use(survey);
-        usages.each_path(survey);
-        for decl in spec.decls.as_slice() {
-            usages.declaration(decl);
+        })
+    }
+
+    /// Counts the uses in a specification.
+    pub fn count(&mut self, decls: &[Decl], survey: &Survey<'_>) {
+        for used in survey.uses.as_slice() {
+            self.add(used.name, Manner::AtAll);
+            if let Some(mention) = used.mention {
+                self.index(mention);
+            }
+        }
+        // The steps of a path name no global names, but their indices may.
+        for path in survey.paths.as_slice() {
+            self.each_index(path.steps);
+        }
+        for decl in decls {
+            self.declaration(decl);
         }
         for at in survey.transitions.as_slice() {
-            usages.transition(at.transition);
+            self.transition(at.transition);
         }
-        Ok(usages)
     }
 
     /// How often a name is used.
@@ -118,31 +112,18 @@ impl<'s, 'a> Usages<'s, 'a> {
         false
     }
 
-    fn note(&mut self, name: &Text, manner: Manner) {
-        let place = self.globals.place(name);
-        count(&mut self.all, place, manner);
+    fn add(&mut self, name: &Text, manner: Manner) {
+        if let Some(place) = self.globals.place(name) {
+            if place < self.all.len() {
+                self.all[place] = self.all[place].and(manner);
+            }
+        }
     }
 
     /// A constant in an index.
     fn index(&mut self, mention: &Mention) {
         if let Some(Index::Name(name)) = index_of(mention) {
-            self.note(name, Manner::AtAll);
-        }
-    }
-
-    fn each_use(&mut self, survey: &Survey<'_>) {
-        for used in survey.uses.as_slice() {
-            self.note(used.name, Manner::AtAll);
-            if let Some(mention) = used.mention {
-                self.index(mention);
-            }
-        }
-    }
-
-    /// The steps of a path name no global names, but their indices may.
-    fn each_path(&mut self, survey: &Survey<'_>) {
-        for path in survey.paths.as_slice() {
-            self.each_index(path.steps);
+            self.add(name, Manner::AtAll);
         }
     }
 
@@ -154,13 +135,13 @@ impl<'s, 'a> Usages<'s, 'a> {
 
     fn each_named(&mut self, mentions: &[Mention], manner: Manner) {
         for mention in mentions {
-            self.note(&mention.name, manner);
+            self.add(&mention.name, manner);
         }
     }
 
     fn each_trigger(&mut self, cases: &[SendCase]) {
         for case in cases {
-            self.note(&case.trigger.name, Manner::Awaited);
+            self.add(&case.trigger.name, Manner::Awaited);
         }
     }
 
@@ -168,9 +149,9 @@ impl<'s, 'a> Usages<'s, 'a> {
         match decl {
             Decl::Receive { inputs, raised, .. } => {
                 self.each_named(inputs.as_slice(), Manner::Written);
-                self.note(&raised.name, Manner::Raised);
+                self.add(&raised.name, Manner::Raised);
                 if !inputs.is_empty() {
-                    self.note(&raised.name, Manner::Telling);
+                    self.add(&raised.name, Manner::Telling);
                 }
             }
             Decl::Send { cases, .. } => self.each_trigger(cases.as_slice()),
@@ -179,7 +160,7 @@ impl<'s, 'a> Usages<'s, 'a> {
     }
 
     fn transition(&mut self, transition: &Transition) {
-        self.note(&transition.trigger.name, Manner::Awaited);
+        self.add(&transition.trigger.name, Manner::Awaited);
         self.each_named(transition.raises.as_slice(), Manner::Raised);
     }
 }

@@ -2,8 +2,8 @@ use Rattle.bdd_core.specs.Diagram.{IsRef}
 use Rattle.guard_encode.specs.Encoding.{Keeps}
 use Rattle.group_mends.proofs.soundness.count_enabled.Given as goal
 
-abbrev pub invariant-loop-member : goal.invariant-loop-member
-invariant-loop-member l = record {
+abbrev pub invariant-loop-place : goal.invariant-loop-place
+invariant-loop-place l = record {
   keeps : Keeps l.fn.encoder l.encoder;
   some : IsRef l.encoder.diagram l.counted.some;
   two : IsRef l.encoder.diagram l.counted.two;

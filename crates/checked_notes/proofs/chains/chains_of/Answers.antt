@@ -3,7 +3,7 @@ use Rattle.rsml_syntax.specs.declared.syntax.Spec.{Spec}
 use Rattle.ground_members.specs.declared.transitions.GroundTransition.{GroundTransition}
 use Rattle.ground_members.specs.declared.send_cases.GroundSendCase.{GroundSendCase}
 use Rattle.ground_members.specs.Members.{AreSendCases, AreTransitions}
-use Rattle.finding_notes.proofs.chains.chains_of.Goals as goal
+use Rattle.checked_notes.proofs.chains.chains_of.Goals as goal
 
 pub build-requires-clause-transitions : goal.build-requires-clause-transitions
 build-requires-clause-transitions c =
