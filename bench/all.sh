@@ -1,6 +1,6 @@
 #!/usr/bin/env bash
 # Runs the benchmarks of this folder, and prints a line for each task: bench/all.sh [NAME..]
-# A NAME is that of a script, as lexer or diagrams; without names all run. A line has the task, what is measured of ours and of the peer,
+# A NAME is that of a script, as check or diagrams; without names all run. A line has the task, what is measured of ours and of the peer,
 # their ratio, and the aim: the most that the ratio may be, or what ours may be where the aim has a unit. A dash stands where there is
 # none, and `missed` behind an aim that is not reached. Above the table stand the date, the machine and the toolchain. bench/README.md
 # tells what each script measures.
@@ -9,7 +9,7 @@
 set -u
 [ -z "${PROGRAM:-}" ] || { PROGRAM=$(realpath "$PROGRAM"); export PROGRAM; }
 cd "$(dirname "$0")/.." || exit 2
-names=(lexer parser reading rules machine chains steps event_files diagrams tables guards check simulate demo migrate)
+names=(reading rules event_files diagrams guards clusters check simulate demo migrate)
 work=$(mktemp -d)
 trap 'rm -rf "$work"' EXIT
 

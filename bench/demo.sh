@@ -12,9 +12,7 @@ work=$(mktemp -d)
 trap 'rm -rf "$work"' EXIT
 source bench/stages.sh
 
-[ -n "${PROGRAM:-}" ] || ./rsml demo 1 > /dev/null || exit 1
-program=${PROGRAM:-crates/rsml_main/out/rsml_main}
-
+take_program
 stages="reading rules machine diagrams groups run"
 heading=
 if with_shares; then heading="  reading    rules  machine diagrams   groups      run"; fi
@@ -22,5 +20,5 @@ printf '%-8s %9s %7s%s\n' units ms MB "$heading"
 for units in 1 8 40 64; do
   told=
   if with_shares; then told=$(shares "$stages" demo "$units"); fi
-  printf '%-8s %9s %7s%s\n' "$units" "$(least demo "$units")" "$(megabytes demo "$units")" "$told"
+  printf '%-8s %9s %7s%s\n' "$units" "$(least "$program" demo "$units")" "$(megabytes "$program" demo "$units")" "$told"
 done

@@ -5,7 +5,7 @@
     bench/diagram_steps.py --test COUNT PROGRAM    compares what a program answers to steps with reports, as `smt.py --test` does
 
 Its levels, their weights and their order are those of the crates `level_order`, `world_levels` and `spelled_numbers`, and the steps are
-those of `state_diagrams`, `phrase_diagrams`, `world_sums`, `guard_encode` and `failing_worlds`, one by one. Each line makes a function of
+those of `state_diagrams`, `phrase_diagrams`, `world_sums`, `guard_encode` and `group_verdicts`, one by one. Each line makes a function of
 earlier ones. They are numbered from 2 on; 0 is false and 1 is true.
 
     levels N               how many levels there are

@@ -1,10 +1,9 @@
-//! The reading of crates/event_bench in plain Rust: the same lines, the same events, the same digest.
-//! `event_files SPEC FILE`; the specification is that of the bench, whose receives are written out here.
+//! `event_files FILE`: the trace that `rsml simulate` writes of an event file for the specification of bench/event_files.sh, in plain
+//! Rust. Its receives are written out here, and nothing in it reacts.
 
 use std::collections::HashMap;
 use std::fs::File;
-use std::io::{BufRead, BufReader, Read};
-use std::time::Instant;
+use std::io::{BufRead, BufReader, BufWriter, Read, Write};
 
 const LINE: usize = 4_096;
 const FILE: u64 = 4_294_967_296;
@@ -126,44 +125,54 @@ fn skipped(line: &[u8]) -> bool {
     }
 }
 
-fn main() {
-    let mut arguments = std::env::args().skip(2);
-    let name = arguments.next().expect("SPEC FILE");
+fn rule(fault: Fault) -> &'static str {
+    match fault {
+        Fault::NotUtf8 => "E1",
+        Fault::UnknownInterface => "E2",
+        Fault::BadIndex => "E3",
+        Fault::WrongField => "E4",
+        Fault::ExtraWord => "E5",
+        Fault::NotAValue => "E6",
+        Fault::OutOfRange => "E7",
+    }
+}
+
+fn main() -> std::io::Result<()> {
+    let name = std::env::args().nth(1).expect("FILE");
     let forms = forms();
-    let start = Instant::now();
-    let mut reader = BufReader::with_capacity(16_384, File::open(name).expect("the file"));
-    let (mut lines, mut events, mut faults, mut digest, mut at) = (0_u64, 0_u64, 0_u64, 0_u64, 0_u64);
-    let mut buffer = Vec::new();
-    let mut values = [0_i64; 1];
-    let end = loop {
+    let mut reader = BufReader::with_capacity(16_384, File::open(name)?);
+    let mut out = BufWriter::with_capacity(16_384, std::io::stdout().lock());
+    let (mut lines, mut events, mut at) = (0_u64, 0_u64, 0_u64);
+    let (mut buffer, mut values, mut cells) = (Vec::new(), [0_i64; 1], [0_i64; 5]);
+    loop {
         buffer.clear();
-        let read = reader.by_ref().take(LINE as u64 + 1).read_until(b'\n', &mut buffer).expect("a read");
+        let read = reader.by_ref().take(LINE as u64 + 1).read_until(b'\n', &mut buffer)?;
         if read == 0 {
-            break "end";
+            return writeln!(out, "end {events}");
         }
-        let whole = buffer.last() == Some(&b'\n');
-        let line = if whole { &buffer[..buffer.len() - 1] } else { &buffer[..] };
+        lines += 1;
+        let line = buffer.strip_suffix(b"\n").unwrap_or(&buffer);
         if line.len() > LINE {
-            break "long line";
+            return writeln!(out, "fault line {lines} long");
         }
         at += read as u64;
         if at > FILE {
-            break "long file";
+            return writeln!(out, "fault long");
         }
-        lines += 1;
         let line = line.strip_suffix(b"\r").unwrap_or(line);
         if skipped(line) {
             continue;
         }
         match read_line(&forms, line, &mut values) {
-            Ok(interface) => {
+            Ok(receive) => {
                 events += 1;
-                digest = digest.wrapping_mul(31).wrapping_add(u64::from(interface));
-                digest = digest.wrapping_mul(31).wrapping_add(values[0].unsigned_abs());
+                cells[receive as usize] = values[0];
+                match receive {
+                    0 => writeln!(out, "event {events} Set\n  round 1 Tick")?,
+                    index => writeln!(out, "event {events} Fill[{index}]\n  round 1 Tick")?,
+                }
             }
-            Err(_) => faults += 1,
+            Err(fault) => return writeln!(out, "fault line {lines} {}", rule(fault)),
         }
-    };
-    println!("lines {lines} events {events} faults {faults} digest {digest} {end}");
-    println!("nanoseconds {}", start.elapsed().as_nanos());
+    }
 }

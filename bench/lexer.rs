@@ -1,8 +1,5 @@
-// The lexer of `rsml_lexer` in plain Rust, as a baseline: `lexer FILE ROUNDS` prints the number of tokens and the
-// nanoseconds of the shortest round. Letters outside ASCII are those of std, since the tables of `unicode_ident` are
-// no part of it.
-use std::time::Instant;
-use std::{env, fs};
+// The lexer of `rsml_lexer` in plain Rust, for the reader of parser.rs. Letters outside ASCII are those of std, since the tables of
+// `unicode_ident` are no part of it.
 
 #[derive(Clone, Copy, Debug, PartialEq)]
 enum Word {
@@ -222,20 +219,4 @@ fn lex(text: &[u8]) -> Result<Vec<Placed>, LexError> {
         Ok(text) => tokens_of(text),
         Err(error) => Err(LexError::NotUtf8 { at: error.valid_up_to() as u32 }),
     }
-}
-
-fn main() {
-    let words: Vec<String> = env::args().skip(1).collect();
-    let text = fs::read(&words[0]).expect("a file");
-    let rounds: u32 = words[1].parse().expect("a number of rounds");
-    let mut tokens = 0;
-    let mut nanoseconds = u128::MAX;
-    for _ in 0..rounds {
-        let start = Instant::now();
-        let found = lex(&text);
-        nanoseconds = nanoseconds.min(start.elapsed().as_nanos());
-        tokens = found.map_or(0, |found| found.len());
-    }
-    println!("tokens {tokens}");
-    println!("nanoseconds {nanoseconds}");
 }

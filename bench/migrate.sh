@@ -4,7 +4,7 @@
 # name `previous` writes what `format` writes. PROGRAM=FILE takes a program that is built already.
 set -u
 cd "$(dirname "$0")/.." || exit 1
-[ -n "${PROGRAM:-}" ] || ./rsml format examples/lamp.rsml >/dev/null || exit 1
+[ -n "${PROGRAM:-}" ] || RSML_PROGRAM=proved ./rsml format examples/lamp.rsml >/dev/null || exit 1
 program=${PROGRAM:-crates/rsml_main/out/rsml_main}
 folder=$(mktemp -d) || exit 1
 trap 'rm -rf "$folder"' EXIT

@@ -1,13 +1,11 @@
-// The reader of `rsml_parser` in plain Rust, as a baseline: `parser FILE ROUNDS` prints the number of tokens and of
-// declarations, and the nanoseconds of the shortest round. The tokens are those of the plain lexer. They are made anew for
-// each round before its time begins, as in `text_bench`, so that both find memory in the same state.
+// Lexer and parser in plain Rust, as a baseline: `parser FILE` reads a specification as `rsml check` does, and prints the first fault
+// of its syntax as it does.
 #[allow(dead_code)]
 mod lexer {
     include!("lexer.rs");
 
     pub mod parser {
         use super::{lex, Mark, Placed, Token, Word};
-        use std::time::Instant;
         use std::{env, fs};
 
         type Name = Vec<u8>;
@@ -356,22 +354,13 @@ mod lexer {
         }
 
         pub fn run() {
-            let words: Vec<String> = env::args().skip(1).collect();
-            let text = fs::read(&words[0]).expect("a file");
-            let rounds: u32 = words[1].parse().expect("a number of rounds");
-            let (mut count, mut declarations) = (0, 0);
-            let mut nanoseconds = u128::MAX;
-            for _ in 0..rounds {
-                let tokens = lex(&text).expect("tokens");
-                let start = Instant::now();
-                let found = parse(&tokens);
-                nanoseconds = nanoseconds.min(start.elapsed().as_nanos());
-                count = tokens.len();
-                declarations = found.map_or(0, |spec| spec.decls.len());
+            let text = fs::read(env::args().nth(1).expect("a name")).expect("a file");
+            let tokens = lex(&text).expect("tokens");
+            match parse(&tokens) {
+                Ok(_) => println!("no fault"),
+                Err((Fault::Syntax, token)) => println!("fault syntax token {token}"),
+                Err((Fault::TooDeep, token)) => println!("fault depth token {token}"),
             }
-            println!("tokens {count}");
-            println!("declarations {declarations}");
-            println!("nanoseconds {nanoseconds}");
         }
     }
 }

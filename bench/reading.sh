@@ -1,24 +1,25 @@
 #!/usr/bin/env bash
-# Lexing, parsing and judging whole specifications of about 1 MiB that keep the rules and limits: bench/reading.sh [ROUNDS]
-# A line for each text: the milliseconds of the lexer, of the parser and of the rules, each the shortest of ROUNDS (20) rounds, and of all
-# together. The aim is 40 milliseconds. It has no peer. It ends with status 1 where a text does not keep the rules.
+# Reading alone, lexer and parser, beside the same in plain Rust: bench/reading.sh [TURNS]
+# The text is a specification of 1 MiB whose last brace is missing: `check` reads all of it, and ends with the place of the fault, which is
+# that of the peer (bench/parser.rs), or this ends with status 1. Printed are the milliseconds of both programs, whole and each the least
+# of TURNS (20) runs, their ratio with the aim, and their greatest resident memory.
+# PROGRAM=FILE takes a program that is built already.
 set -eu
 cd "$(dirname "$0")/.."
-rounds=${1:-20}
+turns=${1:-20}
 work=$(mktemp -d)
 trap 'rm -rf "$work"' EXIT
+source bench/stages.sh
 source bench/texts.sh
 
-(cd crates/text_bench && rt run -- lexer ../../examples/lamp.rsml 1 > "$work/log" 2>&1) || { tail -n 5 "$work/log"; exit 1; }
-format='%-12s %8s %9s %9s %9s %9s %5s\n'
-# shellcheck disable=SC2059
-printf "$format" text bytes 'lexer ms' 'parser ms' 'rules ms' together aim
-for text in tanks transitions rows; do
-  "$text" > "$work/text"
-  crates/text_bench/out/text_bench all "$work/text" "$rounds" time > "$work/found"
-  [ "$(sed -n 5p "$work/found")" = kept ] || { echo "$text does not keep the rules"; cat "$work/found"; exit 1; }
-  awk -v text="$text" -v bytes="$(stat -c %s "$work/text")" -v format="$format" '
-    $1 == "nanoseconds" { time[++stage] = $2 / 1e6; together += $2 / 1e6 }
-    END { printf format, text, bytes, sprintf("%.2f", time[1]), sprintf("%.2f", time[2]), sprintf("%.2f", time[3]), sprintf("%.2f", together), 40 }
-  ' "$work/found"
-done
+take_program
+rustc --edition 2021 -O -o "$work/plain" bench/parser.rs
+unfinished > "$work/text"
+ours=$(least "$program" check "$work/text")
+mv "$work/output" "$work/fault"
+peer=$(least "$work/plain" "$work/text")
+cmp "$work/fault" "$work/output" || { echo "another fault in plain Rust"; exit 1; }
+printf '%-12s %8s %8s %8s %6s %5s %8s %8s\n' text bytes 'ours ms' 'peer ms' ratio aim 'ours MB' 'peer MB'
+printf '%-12s %8s %8s %8s %6s %5s %8s %8s\n' unfinished "$(stat -c %s "$work/text")" "$ours" "$peer" \
+  "$(awk -v ours="$ours" -v peer="$peer" 'BEGIN { printf "%.2f", ours / peer }')" 1.5 \
+  "$(megabytes "$program" check "$work/text")" "$(megabytes "$work/plain" "$work/text")"

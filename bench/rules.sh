@@ -1,11 +1,14 @@
 #!/usr/bin/env bash
-# Judges hostile specifications of nearly 1 MiB, and prints for each what it is to break (by docs/rules.md) and what was found,
-# and the time of judging against that of reading it, lexer and parser together: the shortest of 5 rounds of each. It has no
-# peer. It ends with status 1 where an answer is not the one that is wanted.
+# Rules and limits on hostile specifications of nearly 1 MiB, as whole commands: bench/rules.sh [TURNS]
+# A line for each: the rule or limit that it breaks (by docs/rules.md), what `check` has found, the milliseconds of `format` (reading and
+# writing the layout) and of `check` (reading and judging), each the least of TURNS (3) runs, and their ratio. It ends with status 1 where
+# an answer is not the one that is wanted. PROGRAM=FILE takes a program that is built already.
 set -eu
 cd "$(dirname "$0")/.."
+turns=${1:-3}
 work=$(mktemp -d)
 trap 'rm -rf "$work"' EXIT
+source bench/stages.sh
 
 # make NAME WANTED PROGRAM: a text, by an awk program that ends once it has written about a million bytes.
 make() {
@@ -35,9 +38,6 @@ make macro_named_by_all L2 "put(\"specification A; event E; macro M { \"); for (
 make large_family S10 "put(\"specification A; event E; state A all { \"); while (size < $most) put(\"state Y\" n++ \"; \"); put(\"}\")"
 make enormous_ground_machine L5 "put(\"specification A; \"); while (size < $most) { put(\"macro M\" n++ \" [64] { \");
   for (i = 0; i < 64; i++) put(\"every i of 64 : 1 = 1 | T; \"); put(\"} \") } put(\"state A;\")"
-make many_comparisons kept "put(\"specification A; range R 0 .. 9; input X : R = 0; function G { \"); while (size < $most / 2) put(\"X when always; \"); put(\"} \");
-  while (size < $most) { put(\"macro M\" n++ \" { \"); for (i = 0; i < 64; i++) put(\"function G = 1 | T; \"); put(\"} \") } put(\"state A;\")"
-
 make sums_by_constants L7 "put(\"specification A; range R 0 .. 9; input X : R = 0; function G { \"); while (size < $most / 2) put(\"X - \" n++ \" when always; \"); put(\"} \");
   while (size < $most) { put(\"macro M\" m++ \" { \"); for (i = 0; i < 64; i++) put(\"function G < \" k++ \" | T; \"); put(\"} \") } put(\"state A;\")"
 make sums_of_two_functions L7 "put(\"specification A; range R 0 .. 9; input X : R = 0; function G { \"); while (size < $most / 4) put(\"X - \" n++ \" when always; \"); put(\"} function H { \");
@@ -57,18 +57,15 @@ make sums_by_sums L7 "put(\"specification A; range R 0 .. 9; input X : R = 0; in
 make function_of_many_indices L7 "put(\"specification A; range R 0 .. 9; input X [64] : R = 0; function G [64] { \"); while (size < $most / 2) put(\"X[this] - \" n++ \" when always; \"); put(\"} \");
   while (size < $most) { put(\"macro M\" m++ \" { \"); for (i = 0; i < 64; i++) put(\"function G[\" i + 1 \"] < \" k++ \" | T; \"); put(\"} \") } put(\"state A;\")"
 
-(cd crates/text_bench && rt run -- rules "$work/buses" 1 > /dev/null)
-bench=crates/text_bench/out/text_bench
-printf '%-28s %8s %8s %10s %10s %8s\n' text wanted found 'read ms' 'judge ms' ratio
+take_program
+printf '%-28s %8s %8s %10s %10s %8s\n' text wanted found 'format ms' 'check ms' ratio
 differ=0
 while read -r name wanted; do
-  "$bench" all "$work/$name" 5 time | awk -v name="$name" -v wanted="$wanted" '
-    $1 == "nanoseconds" { time[++stage] = $2 / 1e6; next }
-    { found = $1 }
-    END {
-      read = time[1] + time[2]
-      printf "%-28s %8s %8s %10.1f %10.1f %8.2f\n", name, wanted, found, read, time[3], time[3] / read
-      exit (found != wanted)
-    }' || differ=1
+  format=$(least "$program" format "$work/$name")
+  check=$(least "$program" check "$work/$name")
+  found=$(awk '$1 == "fault" { print $2 }' "$work/output")
+  printf '%-28s %8s %8s %10s %10s %8s\n' "$name" "$wanted" "${found:-none}" "$format" "$check" \
+    "$(awk -v f="$format" -v c="$check" 'BEGIN { printf "%.2f", c / f }')"
+  [ "$found" = "$wanted" ] || differ=1
 done < "$work/answers"
 [ $differ = 0 ] || { echo "an answer is not the one that is wanted"; exit 1; }

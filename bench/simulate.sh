@@ -6,8 +6,9 @@
 # A line for each: milliseconds of ours, which contain the check of the specification; of the general one, and the ratio of ours to it; of
 # the one for this specification, and the ratio to it; how many rounds ours makes in a second; and the aim of the first ratio. Times are
 # the least of TURNS (9) runs by turns. All traces are compared first, and that of the general one for an example with components in
-# others. Then the greatest resident memory of ours for files of 10,000 and of ten times EVENTS events. It ends with status 1 where two
-# traces are different.
+# others. Then what an event costs in a machine of 4,000 states and 8,000 transitions of which each event concerns two, by one of the lamp
+# and without the checks; and the greatest resident memory of ours for files of 10,000 and of ten times EVENTS events. It ends with status
+# 1 where two traces are different.
 # PROGRAM=FILE takes a program that is built already.
 set -eu
 cd "$(dirname "$0")/.."
@@ -31,6 +32,8 @@ file() {
     tcas) awk -v n="$2" 'BEGIN { srand(2); for (i = 0; i < n; i++) if (rand() < 0.1)
         print "Pilot Selector=" (rand() < 0.8 ? "Active" : "Standby") " Own_Alt=" int(rand() * 61001) - 1000
       else print "Radar[" 1 + int(rand() * 30) "] Tau=" int(rand() * 256) }' ;;
+    many_units) awk -v n="$2" 'BEGIN { srand(4); for (i = 0; i < n; i++) { k = 1 + int(rand() * 16)
+        print "Load" k "[" 1 + int(rand() * 62) "] Depth" k "=" int(rand() * 10) } }' ;;
     demo) awk -v n="$2" 'BEGIN { srand(3); for (i = 0; i < n; i++) print "Load[" 1 + int(rand() * 64) "] Depth=" int(rand() * 1000) }' ;;
   esac
 }
@@ -66,6 +69,19 @@ for task in lamp tcas demo; do
     'BEGIN { printf "%-6s %10d %7d ms %7d ms %7.2f %7d ms %7.2f %10.0f %6.2f\n", task, events, ours, general, ours / (general + 0.001),
       special, ours / (special + 0.001), 1000 * rounds / (ours + 0.001), 1.5 }'
 done
+# reacting TASK: the milliseconds of ours, the least of the turns, less those for an event file without events.
+reacting() {
+  for _ in $(seq "$turns"); do milliseconds ours "$1"; done | sort -n | head -n 1 > "$work/whole"
+  : > "$work/$1.events"
+  for _ in $(seq "$turns"); do milliseconds ours "$1"; done | sort -n | head -n 1 | awk -v whole="$(cat "$work/whole")" '{ print whole - $1 }'
+}
+many_units > "$work/many_units.rsml"
+for task in lamp many_units; do
+  file $task "$events" > "$work/$task.events"
+  reacting $task > "$work/$task.reacting"
+done
+awk -v units="$(cat "$work/many_units.reacting")" -v lamp="$(cat "$work/lamp.reacting")" \
+  'BEGIN { printf "reactions: many_units %d ms, lamp %d ms, ratio %.2f, aim 3\n", units, lamp, units / (lamp + 0.001) }'
 for count in 10000 $((10 * events)); do
   file lamp "$count" > "$work/lamp.events"
   printf 'lamp, %d events: ' "$count"

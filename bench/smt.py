@@ -24,10 +24,10 @@ from pathlib import Path
 HERE = Path(__file__).resolve().parent
 sys.path.insert(0, str(HERE.parent / "tools"))
 
-from instance_lines import path_text  # noqa: E402
-from label_lines import Texts, cell_text, group_text, instance_text  # noqa: E402
 from random_specifications import random_specification  # noqa: E402
 from report_lines import report, stored_reports  # noqa: E402
+from state_reading import path_text  # noqa: E402
+from text_reading import Texts, cell_text, group_text, instance_text  # noqa: E402
 
 EXAMPLES = ["alerter", "alerter_mended", "lamp"]
 MOST_WORLDS = 100_000

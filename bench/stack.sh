@@ -5,9 +5,7 @@
 # names, or else is built.
 #
 # The recursions over diagrams go as deep as a function has levels, those over states and definitions as deep as these stand in one another.
-# The texts are those at the limits in which they go deepest: 1,024 inputs of the widest range, all read by the guards of one group;
-# 4,044 states, nearly all of them 14 deep; a chain of macros;
-# 64 units of the demo; and thirty heights that are compared with one.
+# The texts are those of texts.sh at the limits in which they go deepest; tests/stack sees that each ends with 8,192 KiB.
 #
 # It ends with status 1 where a check does not end with 8,192 KiB.
 set -eu
@@ -30,17 +28,13 @@ ends() {
   [ "$status" -le 1 ]
 }
 
-levels > "$work/levels"
-states > "$work/states"
-demo 64 > "$work/demo_64"
-star 30 mistaken > "$work/star_30_mistaken"
-written 'put("specification A;event E0;"); inputs(1); put("receive I(X0)raise E0;macro M0{X0<1|T;}")
-  for (m = 1; m < 8192; m++) put("macro M" m "{macro M" m - 1 "|T;}")
-  put("state A one{default B;state B;stay B on E0 when{macro M8191|T;};stay B on E0 when{macro M8191|F;};}")' > "$work/macros"
+for name in $DEEP_TEXTS; do
+  deep_text "$name" > "$work/$name"
+done
 
 status=0
 printf '%-18s %8s %7s %7s %10s\n' specification bytes cells groups 'stack KiB'
-for name in levels states macros demo_64 star_30_mistaken; do
+for name in $DEEP_TEXTS; do
   if ! ends 8192 "$work/$name"; then echo "$name: not within 8192 KiB"; status=1; continue; fi
   low=0 high=8192
   while [ $((high - low)) -gt 64 ]; do

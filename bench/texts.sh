@@ -473,3 +473,156 @@ levels() {
       put("};") }
     put("}")'
 }
+
+# unfinished: nearly 1 MiB with some 1,900 parts, of which the last brace is missing.
+unfinished() {
+  awk 'BEGIN {
+    parts = 1929
+    print "specification Plant;"
+    for (n = 1; n <= parts; n++) {
+      printf "range Level_%d 0 .. 999;\nconstant Limit_%d = %d;\n", n, n, n * 7
+      printf "input Depth_%d [8] : Level_%d = 0;\nevent Go_%d;\ninput Size_%d : Level_%d = 1;\n", n, n, n, n, n
+      printf "macro High_%d { some k of 8 : Depth_%d[k] >= 500 | T; }\n", n, n
+      printf "receive Load_%d [8] (Depth_%d[this]) raise Go_%d;\n", n, n, n
+    }
+    print "state Plant all {"
+    for (n = 1; n <= parts; n++) {
+      printf "  state Plant_%d all {\n    array Unit [8] one {\n      default Off;\n      state Off;\n      state On;\n", n
+      printf "      move Off -> On on Go_%d when { Depth_%d[this] >= Limit_%d | T; };\n", n, n, n
+      printf "      stay Off on Go_%d when { Depth_%d[this] < 500 | T .; previous Depth_%d[1] + 3 != 7 | . F; };\n", n, n, n
+      printf "    }\n  }\n"
+    }
+  }'
+}
+
+# chains_usual: eight components, each with a chain of six events, guards over their inputs, and a send that tells of the last.
+chains_usual() {
+  awk 'BEGIN {
+    print "specification Usual;\nrange Level 0 .. 1000;\nenumeration Switch { Off, On }"
+    for (i = 1; i <= 8; i++) {
+      printf "input Height%d : Level = 0;\ninput Lever%d : Switch = Off;\n", i, i
+      for (k = 1; k <= 6; k++) printf "event Step%d_%d;\n", i, k
+      printf "macro High%d { Height%d > 500 | T .; Lever%d = On | . T; }\n", i, i, i
+      printf "receive Told%d (Height%d, Lever%d) raise Step%d_1;\n", i, i, i, i
+      printf "send Answer%d (Value) {\n  on Step%d_6 when { macro High%d | T; } (Height%d);\n  on Step%d_6 when { macro High%d | F; } quiet;\n}\n", i, i, i, i, i, i
+    }
+    print "state Usual all {"
+    for (i = 1; i <= 8; i++) {
+      printf "  state Part%d one {\n    default Idle;\n    state Idle;\n    state Busy;\n", i
+      for (k = 1; k <= 6; k++) {
+        raised = k < 6 ? " raise Step" i "_" k + 1 : ""
+        printf "    move Idle -> Busy on Step%d_%d when { macro High%d | T .; Height%d >= %d | . T; }%s;\n", i, k, i, i, 100 * k, raised
+        printf "    stay Idle on Step%d_%d when { macro High%d | F; Height%d >= %d | F; }%s;\n", i, k, i, i, 100 * k, raised
+        printf "    move Busy -> Idle on Step%d_%d when { Lever%d = Off | T; Height%d < %d | T; }%s;\n", i, k, i, i, 50 * k, raised
+        printf "    stay Busy on Step%d_%d when { Lever%d = Off | F .; Height%d < %d | . F; }%s;\n", i, k, i, i, 50 * k, raised
+      }
+      print "  }"
+    }
+    print "}"
+  }'
+}
+
+# chains_short: the same events with one transition each, and no guards: the shortest text of such chains.
+chains_short() {
+  awk 'BEGIN {
+    print "specification Short;"
+    for (i = 1; i <= 8; i++) printf "event A%d; event B%d; event C%d; event D%d; event E%d; event G%d; receive R%d () raise A%d;\n", i, i, i, i, i, i, i, i
+    print "state Short all {"
+    split("A B C D E G", name)
+    for (i = 1; i <= 8; i++) {
+      printf "state P%d one { default S; state S;", i
+      for (k = 1; k <= 6; k++) printf " stay S on %s%d when always%s;", name[k], i, k < 6 ? " raise " name[k + 1] i : ""
+      print " }"
+    }
+    print "}"
+  }'
+}
+
+# chains_deep: 8,192 transitions on 1,024 external events, each of which raises the next; their sources are the 15 states of one line.
+chains_deep() {
+  awk 'BEGIN {
+    print "specification Deep;"
+    for (i = 0; i < 16; i++) printf "event E%d [64]; receive R%d [64] () raise E%d[this];\n", i, i, i
+    for (d = 0; d < 15; d++) printf "state S%d one { default S%d;\n", d, d + 1
+    print "state S15;"
+    for (d = 14; d >= 0; d--) {
+      for (n = d; n < 8192; n += 15) {
+        event = (int(n / 15) * 7 + n % 15 * 331) % 1024; after = event + 1
+        printf "stay S%d on E%d[%d] when always%s;\n", d + 1, int(event / 64), event % 64 + 1,
+          after < 1024 ? " raise E" int(after / 64) "[" after % 64 + 1 "]" : ""
+      }
+      print "}"
+    }
+  }'
+}
+
+# chains_wide: the same on 4,033 states, the most that stand side by side in two layers: 2 transitions on each of 3,968, 64 states on a
+# line with each event.
+chains_wide() {
+  awk 'BEGIN {
+    print "specification Wide;"
+    for (i = 0; i < 16; i++) printf "event E%d [64]; receive R%d [64] () raise E%d[this];\n", i, i, i
+    print "state Wide all {"
+    for (i = 0; i < 64; i++) {
+      printf "state P%d one { default S0;\n", i
+      for (k = 0; k < 62; k++) printf "state S%d;", k
+      print ""
+      for (k = 0; k < 62; k++) for (t = 0; t < 2; t++) {
+        event = (i * 124 + k * 2 + t) % 1024; after = event + 1
+        printf "stay S%d on E%d[%d] when always%s;\n", k, int(event / 64), event % 64 + 1,
+          after < 1024 ? " raise E" int(after / 64) "[" after % 64 + 1 "]" : ""
+      }
+      print "}"
+    }
+    print "}"
+  }'
+}
+
+# comparisons: a function of 31,250 cases in 19,200 comparisons.
+comparisons() {
+  written 'put("specification A; range R 0 .. 9; input X : R = 0; function G { ")
+    for (i = 0; i < 31250; i++) put("X when always; ")
+    put("} "); for (m = 0; m < 300; m++) { put("macro M" m " { "); for (i = 0; i < 64; i++) put("function G = 1 | T; "); put("} ") }
+    put("state A;")'
+}
+
+# many_units: 992 units of four states with eight transitions each, of which two are on the event of the unit; and one component of 30
+# states with 64 transitions on an event that does not come.
+many_units() {
+  awk 'BEGIN {
+    print "specification Great; range Level 0 .. 9; event Idle;"
+    for (i = 1; i <= 16; i++) print "input Depth" i " [62] : Level = 0; event Go" i " [62]; receive Load" i " [62] (Depth" i "[this]) raise Go" i "[this];"
+    print "state Great all {"
+    for (i = 1; i <= 16; i++) {
+      high = "when { Depth" i "[this] >= 5 | T; };"; low = "when { Depth" i "[this] >= 5 | F; };"
+      print "array Unit" i " [62] one { default Off; state Off; state On; state Spare;"
+      print "move Off -> On on Go" i "[this] " high " move On -> Off on Go" i "[this] " low
+      print "move Off -> Spare on Idle " high " stay Off on Idle " low " move On -> Spare on Idle " high " stay On on Idle " low
+      print "move Spare -> Off on Idle " high " stay Spare on Idle " low " }"
+    }
+    print "state Rest one { default S1;"
+    for (k = 1; k <= 30; k++) print "state S" k ";"
+    for (k = 1; k <= 64; k++) print "stay S" (k - 1) % 30 + 1 " on Idle when always;"
+    print "} }"
+  }'
+}
+
+# macro_chain: macros that ask one another, as many as may be declared.
+macro_chain() {
+  written 'put("specification A;event E0;"); inputs(1); put("receive I(X0)raise E0;macro M0{X0<1|T;}")
+    for (m = 1; m < 8192; m++) put("macro M" m "{macro M" m - 1 "|T;}")
+    put("state A one{default B;state B;stay B on E0 when{macro M8191|T;};stay B on E0 when{macro M8191|F;};}")'
+}
+
+# The texts within the limits in which recursions go deepest: 1,024 inputs of the widest range, all read by the guards of one group; 4,044
+# states, nearly all of them 14 deep; a chain of macros; 64 units of the demo; and thirty heights that are compared with one.
+DEEP_TEXTS="levels states macro_chain demo_64 star_30_mistaken"
+
+# deep_text NAME: one of them.
+deep_text() {
+  case $1 in
+    demo_64) demo 64 ;;
+    star_30_mistaken) star 30 mistaken ;;
+    *) "$1" ;;
+  esac
+}

@@ -1,11 +1,11 @@
 """A specification with its transitions, sends, functions and groups, and what is true in a world.
 
 It is an independent reading of the definitions: states are paths and events are names with indices, the sentences are those of
-docs/language.md, and it shares nothing with the crates. The states and worlds are those of `instance_lines.py`."""
+docs/language.md, and it shares nothing with the crates. The states and worlds are those of `state_reading.py`."""
 
 import operator
 
-from instance_lines import Specification, is_prefix
+from state_reading import Specification, is_prefix
 
 RELATIONS = {"=": operator.eq, "!=": operator.ne, "<": operator.lt, "<=": operator.le, ">": operator.gt, ">=": operator.ge}
 

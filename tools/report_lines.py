@@ -5,9 +5,9 @@
     tools/report_lines.py FILE                    writes the report on the specification in a file
     tools/report_lines.py --random COUNT PROGRAM  compares COUNT random specifications with what `PROGRAM check FILE` writes
 
-Case files in which specifications have too many worlds are left out. `machine_reading.py`, `label_lines.py` and `chain_lines.py` read a specification by the sentences of docs/language.md and
-docs/formats.md alone, and share nothing with the crates. Random specifications are made by `random_specifications.py`; where one
-differs it is printed with both reports. The last line of a comparison is `N reports right, M wrong`."""
+Specifications that have too many worlds are left out. `state_reading.py`, `machine_reading.py`, `text_reading.py` and
+`chain_reading.py` read one by the sentences of docs/language.md and docs/formats.md alone, and share nothing with the crates. Random
+specifications are made by `random_specifications.py`; where one differs it is printed with both reports. The last line of a comparison is `N reports right, M wrong`."""
 
 import itertools
 import subprocess
@@ -16,14 +16,15 @@ import tempfile
 from pathlib import Path
 
 from cases import cases_of, text_of
-from chain_lines import Chains
-from instance_lines import TOP, path_text
-from label_lines import Texts, cell_text, group_text, instance_text, member_text, number_text
+from chain_reading import Chains
 from random_specifications import random_specification
+from state_reading import path_text
+from text_reading import Texts, cell_text, group_text, instance_text, member_text, number_text
 
+TOP = Path(__file__).resolve().parent.parent
 TESTS = TOP / "tests"
 REPORTS = "check/examples", "check/lamp", "check/language", "random/*", "reports/*"
-TOO_MANY_WORLDS = "check/examples: tcas.rsml", "reports/demo: a.rsml", "reports/fixed: a.rsml"
+TOO_MANY_WORLDS = "check/examples: tcas.rsml", "reports/demo: a.rsml", "reports/fixed: a.rsml", "reports/wide: a.rsml"
 
 
 class Reading(Chains, Texts):

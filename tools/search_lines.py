@@ -2,7 +2,7 @@
 """The report on a specification, worked out by a search through regions of its worlds: for specifications with more worlds than can be
 tried one by one.
 
-    tools/search_lines.py                 compares the reports of the folders of examples/, and the one of tests/reports/fixed.cases
+    tools/search_lines.py                 compares the reports of the folders of examples/, and those of `fixed` and `wide` in tests/reports
     tools/search_lines.py FILE            writes the report on the specification in a file
     tools/search_lines.py --random COUNT  compares COUNT random specifications of at most 20,000 worlds with what `report_lines.py` works
                                           out by trying all worlds
@@ -18,10 +18,9 @@ import sys
 from pathlib import Path
 
 from cases import cases_of, text_of
-from instance_lines import TOP
 from machine_reading import RELATIONS
 from random_specifications import random_specification
-from report_lines import TESTS, Reading, report
+from report_lines import TESTS, TOP, Reading, report
 from trace_lines import worlds
 
 EXAMPLES = TOP / "examples"
@@ -320,11 +319,12 @@ def of_examples():
             yield f"{folder.name}/{name}", (folder / f"{name}.report").read_text(encoding="utf-8"), report(text, Searching)
 
 
-def of_fixed():
-    """The same of a case file, whose specification has too many worlds to try them all."""
-    (case,) = cases_of(str(TESTS / "reports/fixed.cases"))[1]
-    (lines,) = case.files.values()
-    yield case.place, case.answer.decode(), report(text_of(lines, TESTS).decode(), Searching)
+def of_tests():
+    """The same of the case files whose specifications have too many worlds to try them all."""
+    for file in "fixed", "wide":
+        for case in cases_of(str(TESTS / f"reports/{file}.cases"))[1]:
+            (lines,) = case.files.values()
+            yield case.place, case.answer.decode(), report(text_of(lines, TESTS).decode(), Searching)
 
 
 def of_random(count):
@@ -346,7 +346,7 @@ def compare(reports):
 
 def main():
     if len(sys.argv) == 1:
-        return compare((*of_examples(), *of_fixed()))
+        return compare((*of_examples(), *of_tests()))
     if sys.argv[1] == "--random":
         return compare(of_random(int(sys.argv[2])))
     print(report(Path(sys.argv[1]).read_text(encoding="utf-8"), Searching), end="")

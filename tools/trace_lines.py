@@ -1,19 +1,18 @@
 #!/usr/bin/env python3
 """What `simulate` writes, worked out from a specification and an event file by an independent reading.
 
-    tools/trace_lines.py                         compares the traces of tests/simulate, and those of crates/command_tests
+    tools/trace_lines.py                         compares the traces of tests/simulate
     tools/trace_lines.py SPEC EVENTS             writes what `simulate` writes for these files, and ends with its status
     tools/trace_lines.py --random COUNT PROGRAM  compares COUNT random event files for the specifications of tests/simulate with
                                                  what `PROGRAM simulate SPEC EVENTS` writes
 
-`machine_reading.py`, `label_lines.py`, `step_lines.py` and `report_lines.py` read a specification by the sentences of docs/language.md
-and docs/formats.md alone, and share nothing with the crates. Here are the lines of an event file, what they say, and the lines of a
+`machine_reading.py`, `text_reading.py`, `step_reading.py` and `report_lines.py` read a specification by the sentences of
+docs/language.md and docs/formats.md alone, and share nothing with the crates. Here are the lines of an event file, what they say, and the lines of a
 trace. A specification has to keep all rules. One with at most 100,000 worlds is judged by trying them all, and where it is refused its
-report is written; a larger one is taken to be certified. Cases of specifications that break a rule are left out. In
-crates/command_tests is what is written where a read is refused. Event files are made by `random_events.py`. The last line of a comparison is
-`N traces right, M wrong`."""
+report is written; a larger one is taken to be certified. Cases of specifications that break a rule are left out. Event
+files are made by `random_events.py`. The last line of a comparison is `N traces right, M wrong`. tests/refusals takes from here what is
+written where a read is refused."""
 
-import itertools
 import math
 import re
 import subprocess
@@ -22,22 +21,16 @@ import tempfile
 from pathlib import Path
 
 from cases import cases_of, text_of
-from instance_lines import TOP
-from label_lines import instance_text, label, number_text
 from random_events import random_events
 from report_lines import TESTS, Reading, report
-from step_lines import latched, micro_steps, raised_by, sent_number
+from step_reading import latched, micro_steps, raised_by, sent_number
+from text_reading import instance_text, label, number_text
 
-COMMAND_TESTS = TOP / "crates/command_tests/src"
 # Case files without random event files: those of specifications that are refused or none, and of examples.
 NOT_RANDOM = "refusals", "examples"
 
 MOST_WORLDS = 100_000
 LINE_LIMIT, FILE_LIMIT = 4_096, 4_294_967_296
-
-# A table of what is written where a read is refused from some bytes on, and its rows.
-READS = re.compile(r"const READS: \[\(usize, &str\); \d+\] = \[(.*?)\];\n", re.S)
-READS_ROW = re.compile(r'\(\s*(\d+),\s*"((?:[^"\\]|\\.)*)",?\s*\)', re.S)
 
 
 class Fault(Exception):
@@ -182,11 +175,6 @@ def of_files(spec, events):
 # Comparisons.
 
 
-def literal(text):
-    """The bytes of a literal of code."""
-    return re.sub(r"\\\n\s*", "", text).encode().decode("unicode_escape").encode("latin-1")
-
-
 def simulated():
     """Each case of a specification that keeps the rules: its file, itself, the specification, and the event file or nothing."""
     for file in sorted((TESTS / "simulate").glob("*.cases")):
@@ -202,27 +190,9 @@ def stored_traces():
         yield case.place, (case.answer.decode(), case.status), simulation(text, events or b"", 0 if events is None else None)
 
 
-def constants(text):
-    """The string constants of a file of code, by their names."""
-    found = re.findall(r'const (\w+): &str = "(.*?)";', text, re.S)
-    # A line of a string that ends in \ goes on at the first character of the next.
-    return {name: re.sub(r"\\\n\s*", "", value).replace("\\n", "\n") for name, value in found}
-
-
-def refused_reads():
-    """What the tests in crates/command_tests have for each number of bytes of the event file of the lamp, and what is worked out."""
-    told = constants((COMMAND_TESTS / "session.rt").read_text(encoding="utf-8"))
-    text, events = told["LAMP"], told["EVENTS"].encode()
-    rows = READS_ROW.findall(READS.search((COMMAND_TESTS / "reads.rt").read_text(encoding="utf-8"))[1])
-    found = [(int(read), literal(written).decode()) for read, written in rows]
-    for (start, written), (end, _) in itertools.pairwise([*found, (len(events) + 1, "")]):
-        for read in range(start, end):
-            yield f"command_tests {read}", (written, 5), simulation(text, events, read)
-
-
 def random_traces(count, program):
     """What a program writes for random event files, and what is worked out."""
-    texts = sorted({name: text for name, _, text, _ in simulated() if name not in NOT_RANDOM}.items())
+    texts = sorted({(name, text) for name, _, text, _ in simulated() if name not in NOT_RANDOM})
     with tempfile.TemporaryDirectory() as folder:
         spec, events = Path(folder) / "spec", Path(folder) / "events"
         for seed in range(count):
@@ -246,7 +216,7 @@ def compare(traces):
 
 def main():
     if len(sys.argv) == 1:
-        return compare((*stored_traces(), *refused_reads()))
+        return compare(stored_traces())
     if sys.argv[1] == "--random":
         return compare(random_traces(int(sys.argv[2]), sys.argv[3]))
     written, status = of_files(*map(Path, sys.argv[1:]))

@@ -1,5 +1,0 @@
-pub mod Belows
-pub mod Children
-pub mod Members
-pub mod Told
-pub mod Typed
