@@ -1,12 +1,4 @@
-pub mod CommandLemmas
-pub mod DemoLemmas
-pub mod HeadlineLemmas
-pub mod JudgementLemmas
-pub mod LastLines
+pub mod ActionLemmas
 pub mod OneOutput
-pub mod OutcomeLemmas
-pub mod SimulationLemmas
-pub mod StartLemmas
-pub mod SummaryLemmas
-pub mod TextLemmas
+pub mod RunLemmas
 pub mod UnitLemmas

@@ -1,13 +1,16 @@
 -- The number of units that digits write, digit by digit.
-use Rattle.std.proofs.Common.{◌≡◌, ℕ, ◌+◌, ◌-◌, ◌*◌, ◌<◌, ◌≤◌, Bool, true, false, [], ◌∷◌, length, drop, get_or, Option, Some, None, refl, sym, ap, ◌∙◌, arith}
-use Rattle.std.specs.Prelude.{if◌then◌else◌, ◌==◌, ◌&&◌, fold, nat_le, option_and_then}
+use Rattle.std.proofs.Common.{◌≡◌, ℕ, ◌+◌, ◌-◌, ◌*◌, ◌<◌, ◌≤◌, List, Bool, true, false, [], ◌∷◌, length, drop, get_or, Option, Some, None, refl, sym, ap, ◌∙◌, arith}
+use Rattle.std.specs.Prelude.{if◌then◌else◌, ◌==◌, ◌&&◌, codes, fold, nat_le, option_and_then}
 use Rattle.std.specs.Option.{option_map}
 use Rattle.std.specs.Char.{is_ascii_digit}
 use Rattle.std.specs.Str.{byte, all_ascii_digits}
 use Rattle.std.proofs.lemmas.Bool.Decides.{nat_tests}
 use Rattle.std.proofs.lemmas.List.{drop_all, drop_more}
 use Rattle.rsml_meaning.specs.EventLines.{Bytes, digits_number}
+use Rattle.rsml_syntax.specs.text.Names.{same}
+use Rattle.rsml.specs.Commands.{Command, act, simulate, demo, version, command_of, with_file, action_of, AreUnits}
 use Rattle.rsml.specs.Units.{most, within_64, units_of}
+use Rattle.rsml.specs.declared.command.Action.{Action}
 
 -- the number that more digits make of a number
 abbrev pub counted : ℕ → Bytes → ℕ
@@ -64,3 +67,35 @@ units_within word n e = by (digits_number word) e
     by : (o : Option ℕ) → option_and_then within_64 o ≡ Some n → (1 ≤ n) × (n ≤ 64)
     by None f = absurd (let no : ⊥ = cc in no)
     by (Some d) f = of d (nat_le 1 d) (nat_le d 64) refl refl f
+
+-- The units of a command.
+
+pub are_units : (words : List Bytes) (c : Command) → command_of words ≡ Some c → AreUnits c
+are_units words (act does file) e = tt
+are_units words (simulate file events) e = tt
+are_units words version e = tt
+are_units [] (demo n) e = absurd (let no : ⊥ = cc in no)
+are_units (word ∷ []) (demo n) e = by (same word (codes "version")) e
+  where
+    by : (b : Bool) → (if b then Some version else None) ≡ Some (demo n) → (1 ≤ n) × (n ≤ 64)
+    by true f = absurd (let no : ⊥ = cc in no)
+    by false f = absurd (let no : ⊥ = cc in no)
+are_units (word ∷ file ∷ []) (demo n) e = by_word (same word (codes "demo")) e
+  where
+    by_units : (o : Option ℕ) → units_of file ≡ o → option_map demo o ≡ Some (demo n) → (1 ≤ n) × (n ≤ 64)
+    by_units None u f = absurd (let no : ⊥ = cc in no)
+    by_units (Some k) u f = let is : k ≡ n = cc in units_within file n (u ∙ ap Some is)
+
+    by_action : (o : Option Action) → option_map (with_file file) o ≡ Some (demo n) → (1 ≤ n) × (n ≤ 64)
+    by_action None f = absurd (let no : ⊥ = cc in no)
+    by_action (Some does) f = absurd (let no : ⊥ = cc in no)
+
+    by_word : (b : Bool) → (if b then option_map demo (units_of file) else option_map (with_file file) (action_of word)) ≡ Some (demo n) → (1 ≤ n) × (n ≤ 64)
+    by_word true f = by_units (units_of file) refl f
+    by_word false f = by_action (action_of word) f
+are_units (word ∷ file ∷ events ∷ []) (demo n) e = by (same word (codes "simulate")) e
+  where
+    by : (b : Bool) → (if b then Some (simulate file events) else None) ≡ Some (demo n) → (1 ≤ n) × (n ≤ 64)
+    by true f = absurd (let no : ⊥ = cc in no)
+    by false f = absurd (let no : ⊥ = cc in no)
+are_units (word ∷ file ∷ events ∷ more ∷ words) (demo n) e = absurd (let no : ⊥ = cc in no)

@@ -1,5 +1,5 @@
 -- What a command of the program asks for.
-use Rattle.rsml.specs.Commands.{Command, act, simulate, demo}
+use Rattle.rsml.specs.Commands.{Command, act, simulate, demo, version}
 use Rattle.rsml.specs.declared.command.Command.{Command as Given}
 use Rattle.rsml.specs.declared.command.Command.TheVariants as given
 
@@ -8,3 +8,4 @@ abbrev pub asked : Given → Command
 asked (given.Act action file) = act action file.now
 asked (given.Simulate file events) = simulate file.now events.now
 asked (given.Demo units) = demo units
+asked given.Version = version

@@ -1,13 +1,10 @@
 -- The commands: what the words after the program's name ask for.
 use Rattle.std.specs.Prelude.{ℕ, ◌≡◌, ◌≤◌, true, false, List, [], ◌∷◌, Option, Some, None, codes, option_map, if◌then◌else◌, ⊤}
+use Rattle.rsml_meaning.specs.EventLines.{Bytes}
 use Rattle.rsml_syntax.specs.text.Names.{same}
 use Rattle.rsml.specs.Units.{units_of}
 use Rattle.rsml.specs.declared.command.Action.{Action}
 use Rattle.rsml.specs.declared.command.Action.TheVariants as action
-
--- bytes, each as its number
-abbrev pub Bytes : Type 0
-Bytes = List ℕ
 
 -- the action of this word
 abbrev pub action_of : Bytes → Option Action
@@ -30,6 +27,8 @@ pub data Command : Type 0 where
   simulate : Bytes → Bytes → Command
   -- the summary of the generated specification and events of so many units
   demo : ℕ → Command
+  -- which program this is
+  version : Command
 
 -- this action on this file
 abbrev pub with_file : Bytes → Action → Command
@@ -37,6 +36,7 @@ with_file file action = act action file
 
 -- the command that the words are, if they are one
 abbrev pub command_of : List Bytes → Option Command
+command_of (word ∷ []) = if same word (codes "version") then Some version else None
 command_of (word ∷ file ∷ []) = if same word (codes "demo") then option_map demo (units_of file) else option_map (with_file file) (action_of word)
 command_of (word ∷ file ∷ events ∷ []) = if same word (codes "simulate") then Some (simulate file events) else None
 command_of _ = None
@@ -51,6 +51,7 @@ abbrev pub specification_file : Command → Option Bytes
 specification_file (act action file) = Some file
 specification_file (simulate file events) = Some file
 specification_file (demo n) = None
+specification_file version = None
 
 -- the command names this file
 pub data Names : Command → Bytes → Type 0 where

@@ -1,10 +1,11 @@
 -- Laws of what is answered. Each is the contract of a function with no body.
 use Rattle.std.specs.Prelude.{◌≡◌, ◌++◌, List, Some}
 use Rattle.source_notes.specs.Comments.{AreComments}
-use Rattle.rsml.specs.Commands.{Bytes, act, command_of}
+use Rattle.rsml_meaning.specs.EventLines.{Bytes}
+use Rattle.answering.specs.declared.status.Status.{Status}
+use Rattle.rsml.specs.Commands.{act, command_of}
 use Rattle.rsml.specs.Output.{Output}
 use Rattle.rsml.specs.declared.command.Action.TheVariants as action
-use Rattle.rsml.specs.declared.status.Status.{Status}
 
 -- The texts are the same; or the words ask to explain, and the texts are the same before the comment lines at their ends.
 pub data AreSame (words : List Bytes) (bytes others : Bytes) : Type 0 where

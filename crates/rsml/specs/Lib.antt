@@ -1,14 +1,8 @@
 pub mod Asked
 pub mod Commands
-pub mod FaultLines
-pub mod Headline
-pub mod Judgements
 pub mod Laws
 pub mod Output
 pub mod Promises
-pub mod Statuses
 pub mod Steps
-pub mod Summary
-pub mod Texts
 pub mod Units
-pub mod Uses
+pub mod Version

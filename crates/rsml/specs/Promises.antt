@@ -1,19 +1,22 @@
 -- What `run` promises, whatever the files and the sink do.
-use Rattle.std.specs.Prelude.{◌≡◌, ◌≢◌, ℕ, ◌⊎◌, List, Some, None}
+use Rattle.std.specs.Prelude.{◌≡◌, ◌≢◌, ℕ, ◌≤◌, ◌⊎◌, List, [], ◌∷◌, Some, None, Contains}
 use Rattle.rsml_syntax.specs.declared.syntax.Spec.{Spec}
 use Rattle.rsml_meaning.specs.EventFiles.{program_limits, lines_of, IsWellFormed}
+use Rattle.rsml_meaning.specs.EventLines.{Bytes}
 use Rattle.rsml_meaning.specs.Runs.{Reaction, IsRun}
 use Rattle.rsml_meaning.specs.Trace.{whole_trace}
-use Rattle.rsml.specs.Commands.{Bytes, Command, act, simulate, demo, command_of, specification_file, Names}
-use Rattle.rsml.specs.FaultLines as lines
-use Rattle.rsml.specs.Headline.{IsCertificate, IsRefusal}
-use Rattle.rsml.specs.Output.{Output, ReadOutput, IsCertifiedText}
-use Rattle.rsml.specs.Summary.{IsSummary}
-use Rattle.rsml.specs.Texts.{IsTextOf}
-use Rattle.rsml.specs.Uses.{FileUse, SinkUse, ReadRefused, WriteRefused, Writes, WritesPrefix, WritesNothing}
+use Rattle.judging.specs.Headline.{IsCertificate, IsRefusal}
+use Rattle.judging.specs.Texts.{IsTextOf}
+use Rattle.answering.specs.Lines as lines
+use Rattle.answering.specs.Uses.{FileUse, SinkUse, ReadRefused, WriteRefused, Writes, WritesPrefix, WritesNothing}
+use Rattle.answering.specs.declared.status.Status.{Status}
+use Rattle.answering.specs.declared.status.Status.TheVariants as status
+use Rattle.simulating.specs.Outputs.{IsCertifiedText}
+use Rattle.simulating.specs.Simulated.{IsSimulated}
+use Rattle.demonstrating.specs.Summary.{IsSummary}
+use Rattle.rsml.specs.Commands.{Command, act, simulate, demo, version, command_of, specification_file, Names}
+use Rattle.rsml.specs.Output.{Output, ReadOutput}
 use Rattle.rsml.specs.declared.command.Action.TheVariants as action
-use Rattle.rsml.specs.declared.status.Status.{Status}
-use Rattle.rsml.specs.declared.status.Status.TheVariants as status
 
 -- What a call met: the words, what it made of each file, and of the sink.
 pub record Meeting : Type 0 where
@@ -114,6 +117,45 @@ Traces m answer = answer ≡ status.Done → (text content : Bytes) → Simulate
 abbrev pub Demonstrates : Meeting → Status → Type 0
 Demonstrates m answer = answer ≡ status.Done → (n : ℕ) → command_of m.words ≡ Some (demo n) → (bytes : Bytes) × IsSummary n bytes × Writes m.sink bytes
 
+-- Of a file that the command does not name nothing is read: its reach stays, where it is told.
+abbrev pub LeavesOthers : Meeting → Type 0
+LeavesOthers m = (file : Bytes) → ((c : Command) → command_of m.words ≡ Some c → Names c file → ⊥) → (m.file file).reach_after ≡ (m.file file).reach
+
+-- Of the event file, where it is another than the specification, nothing is read but to simulate a certified specification.
+abbrev pub LeavesEvents : Meeting → Status → Type 0
+LeavesEvents m answer = (file events : Bytes) → command_of m.words ≡ Some (simulate file events) → file ≢ events
+    → ((m.file events).reach_after ≡ (m.file events).reach) ⊎ IsSimulated (m.file file) (m.file events) answer
+
+-- the statuses with which `check` and `explain` can end
+abbrev pub judged_answers : List Status
+judged_answers = status.Done ∷ status.Refused ∷ status.SpecFault ∷ status.TooLong ∷ status.ReadFault ∷ status.WriteFault ∷ status.NoMemory ∷ []
+
+-- those with which `format` and `migrate` can
+abbrev pub layout_answers : List Status
+layout_answers = status.Done ∷ status.SpecFault ∷ status.TooLong ∷ status.ReadFault ∷ status.WriteFault ∷ status.NoMemory ∷ []
+
+-- the statuses with which a command can end
+abbrev pub answers_of : Command → List Status
+answers_of (act action.Check _) = judged_answers
+answers_of (act action.Explain _) = judged_answers
+answers_of (act action.Format _) = layout_answers
+answers_of (act action.Migrate _) = layout_answers
+answers_of (simulate _ _) = status.EventFault ∷ judged_answers
+answers_of (demo _) = status.Done ∷ status.WriteFault ∷ status.NoMemory ∷ []
+answers_of version = status.Done ∷ status.WriteFault ∷ []
+
+-- A command ends with one of its statuses, whether its files tell what they hold or not; and with a fault of the event file only where it
+-- simulated a certified specification.
+pub record FitsCommand (m : Meeting) (answer : Status) : Type 0 where
+  pub command : (c : Command) → command_of m.words ≡ Some c → Contains (answers_of c) answer
+  pub event_fault : answer ≡ status.EventFault → (file events : Bytes) → command_of m.words ≡ Some (simulate file events)
+      → IsSimulated (m.file file) (m.file events) answer
+
+-- The counts of refused reads and writes do not fall.
+pub record CountsRise (m : Meeting) : Type 0 where
+  pub reads : (file : Bytes) → (m.file file).refusals ≤ (m.file file).refusals_after
+  pub writes : m.sink.refusals ≤ m.sink.refusals_after
+
 -- All that `run` promises; the headline is in the fields `certified`, `refused`, `traced` and `demonstrated`.
 pub record Runs (m : Meeting) (answer : Status) : Type 0 where
   pub answered : IsAnswered m answer
@@ -127,3 +169,7 @@ pub record Runs (m : Meeting) (answer : Status) : Type 0 where
   pub refused : Refuses m answer
   pub traced : Traces m answer
   pub demonstrated : Demonstrates m answer
+  pub others : LeavesOthers m
+  pub unread_events : LeavesEvents m answer
+  pub fits : FitsCommand m answer
+  pub counts : CountsRise m

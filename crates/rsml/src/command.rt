@@ -26,6 +26,8 @@ pub enum Command<'a> {
     Simulate { file: &'a str, events: &'a str },
     /// The summary of the generated specification and events of 1 to 64 units.
     Demo { units: u32 },
+    /// Which program this is.
+    Version,
 }
 
 /// The action of a word.
@@ -52,6 +54,12 @@ pub fn command_in(words: &[String]) -> Option<Command<'_>>
     ensures { option_map asked result ≡ command_of (map (λ word. string_bytes word) words.now) }
 {
     match words {
+        [word] => {
+            if word.as_str() == "version" {
+                return Some(Command::Version);
+            }
+            None
+        }
         [word, file] => {
             if word.as_str() == "demo" {
                 let units = units_in(file.as_str().as_bytes())?;

@@ -1,23 +1,16 @@
-//! The commands, and the judgement of a specification without files.
+//! The commands of the program: what its words ask for, and what comes of it.
 #![tactic(auto)]
 
+mod acting;
 mod command;
-mod demonstrating;
-mod explaining;
-mod fault_lines;
-mod finishing;
-mod judging;
 mod laws;
-mod outcome;
 mod running;
-mod simulating;
-mod status;
-mod texts;
 mod units;
+mod version;
 
+pub use answering::Status;
 pub use command::{Action, Command};
 pub use demonstrating::demo;
 pub use judging::{Judgement, judge};
 pub use laws::an_output_is_one;
 pub use running::run;
-pub use status::Status;

@@ -1,0 +1,5 @@
+pub mod Lines
+pub mod Outcomes
+pub mod Statuses
+pub mod Uses
+pub mod Writing

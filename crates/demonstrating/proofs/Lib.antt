@@ -1,0 +1,2 @@
+pub mod DemoLemmas
+pub mod SummaryLemmas

@@ -1,0 +1,5 @@
+pub mod JudgementLemmas
+pub mod LastLines
+pub mod OneText
+pub mod ShortLemmas
+pub mod TextLemmas

@@ -1,0 +1,5 @@
+pub mod FaultLines
+pub mod Headline
+pub mod Judgements
+pub mod Steps
+pub mod Texts

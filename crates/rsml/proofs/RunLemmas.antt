@@ -1,0 +1,329 @@
+-- What `run` promises, from what the command that its words are leaves.
+use Rattle.std.proofs.Common.{◌≡◌, ◌≢◌, ℕ, ◌⊎◌, inl, inr, Some, None, refl, sym, ap, ◌∙◌, subst, lit<}
+use Rattle.std.specs.Prelude.{Contains, ⊤}
+use Rattle.rsml_meaning.specs.EventFiles.{program_limits, FileFault, long_line, broken_line, long_file}
+use Rattle.rsml_meaning.specs.EventLines.{Bytes}
+use Rattle.rsml_syntax.specs.declared.syntax.Spec.{Spec}
+use Rattle.simulator.specs.Outputs.{end_of, done, faulty}
+use Rattle.simulator.specs.Outputs as simulation
+use Rattle.simulator.specs.declared.sim_end.SimEnd.{SimEnd}
+use Rattle.answering.specs.Lines as lines
+use Rattle.answering.specs.Uses.{ReadRefused, Writes}
+use Rattle.answering.specs.Writing.{HasWritten}
+use Rattle.answering.specs.declared.status.Status.{Status}
+use Rattle.answering.specs.declared.status.Status.TheVariants as status
+use Rattle.answering.proofs.AnswerLemmas.{Answers, complete, wrote, acted, of_told, of_fits, written_fits}
+use Rattle.checking.proofs.HeadlineLemmas.{certified_output, refused_output}
+use Rattle.simulating.specs.Outputs.{SimulateOutput, IsCertifiedText, status_of}
+use Rattle.simulating.specs.Outputs as simulating
+use Rattle.simulating.specs.Simulated.{IsSimulated}
+use Rattle.simulating.specs.Steps.{HasSimulated}
+use Rattle.simulating.proofs.SimulationLemmas.{EventsUnread, simulated, leaves_events, event_fault, never_usage_of}
+use Rattle.demonstrating.specs.Steps.{HasDemonstrated}
+use Rattle.demonstrating.specs.Summary.{IsSummary}
+use Rattle.demonstrating.proofs.DemoLemmas.{demonstrated, demonstrated_fits}
+use Rattle.rsml.specs.Commands.{Command, act, simulate, demo, version, command_of, specification_file, Names}
+use Rattle.rsml.specs.Commands as commands
+use Rattle.rsml.specs.Output.{ActionOutput, Output}
+use Rattle.rsml.specs.Output as output
+use Rattle.rsml.specs.Promises.{Meeting, Runs, Tells, SomeReadRefused, ReadFaultOutput, Certifies, Refuses, Traces, Demonstrates, Checks, IsTraced, CountsRise, answers_of}
+use Rattle.rsml.specs.Promises as promises
+use Rattle.rsml.specs.Steps.{HasObeyed}
+use Rattle.rsml.specs.Version.{version_text}
+use Rattle.rsml.specs.declared.command.Action.{Action}
+use Rattle.rsml.specs.declared.command.Action.TheVariants as action
+use Rattle.rsml.proofs.ActionLemmas.{acts_texts, of_action, long_is, read_is, write_is, memory_is}
+
+same_some : {A : Type 0} (x y : A) → Some x ≡ Some y → x ≡ y
+same_some x y e = ap (λ o. elim o [ Some z ↦ z | None ↦ x ]) e
+
+-- What stands of any command.
+
+-- its answer and what it wrote, by the contents of its files
+abbrev AnswersOf : Meeting → Status → Type 0
+AnswersOf m answer = Answers (Bytes → Bytes) (Tells m) (Output m.words) (SomeReadRefused m) (ReadFaultOutput m) m.sink answer
+
+-- what holds of the files of `simulate` alone
+abbrev OfSimulate : (Bytes → Bytes → Type 0) → Command → Type 0
+OfSimulate P (simulate file events) = P file events
+OfSimulate P _ = ⊤
+
+-- what it left of other files and of the counts
+pub record LeftOver (m : Meeting) (names : Bytes → Type 0) : Type 0 where
+  pub others : (file : Bytes) → (names file → ⊥) → (m.file file).reach_after ≡ (m.file file).reach
+  pub counts : CountsRise m
+
+module _ (m : Meeting) (answer : Status) (c : Command) (is : command_of m.words ≡ Some c) where
+  -- of the command that the words are
+  given : (P : Command → Type 0) → P c → (d : Command) → command_of m.words ≡ Some d → P d
+  given P h d e = subst P (same_some c d (sym is ∙ e)) h
+
+  named : (file : Bytes) → Names c file → ReadRefused (m.file file) → SomeReadRefused m
+  named file n rose = (c, file, is, n, rose)
+
+  -- its promises, from what it answered, and what each of them is of its kind
+  all_runs : AnswersOf m answer → LeftOver m (Names c) → Contains (answers_of c) answer → answer ≢ status.Usage
+      → Certifies m answer → Refuses m answer → Traces m answer → Demonstrates m answer
+      → OfSimulate (λ file events. file ≢ events → ((m.file events).reach_after ≡ (m.file events).reach) ⊎ IsSimulated (m.file file) (m.file events) answer) c
+      → OfSimulate (λ file events. answer ≡ status.EventFault → IsSimulated (m.file file) (m.file events) answer) c
+      → Runs m answer
+  all_runs h left fits no_usage certifies refuses traces demonstrates unread fault = record {
+    answered = h.answered;
+    usage = record { usage = λ none. absurd (cc (none, is)); only = λ e. absurd (no_usage e) };
+    no_memory = h.no_memory;
+    read_fault = h.read_fault;
+    write_fault = h.write_fault;
+    prefix = h.prefix;
+    complete = complete (Bytes → Bytes) (Tells m) (Output m.words) (SomeReadRefused m) (ReadFaultOutput m) m.sink answer h;
+    certified = certifies;
+    refused = refuses;
+    traced = traces;
+    demonstrated = demonstrates;
+    others = λ file n. left.others file (λ names. n c is names);
+    unread_events = λ file events e.
+        given (OfSimulate (λ file events. file ≢ events → ((m.file events).reach_after ≡ (m.file events).reach) ⊎ IsSimulated (m.file file) (m.file events) answer))
+        unread (simulate file events) e;
+    fits = record {
+      command = given (λ d. Contains (answers_of d) answer) fits;
+      event_fault = λ f file events e.
+          given (OfSimulate (λ file events. answer ≡ status.EventFault → IsSimulated (m.file file) (m.file events) answer)) fault (simulate file events) e f;
+    };
+    counts = left.counts;
+  }
+
+-- A command that acts on one file.
+
+-- the action of a command, and another's in its place
+abbrev action_in : Action → Command → Action
+action_in other (act does file) = does
+action_in other (simulate file events) = other
+action_in other (demo n) = other
+action_in other version = other
+
+module _ (m : Meeting) (answer : Status) (does : Action) (file : Bytes) (is : command_of m.words ≡ Some (act does file))
+    (h : HasObeyed (act does file) m.file m.sink answer) (left : LeftOver m (Names (act does file))) where
+  names_file : Names (act does file) file
+  names_file = commands.specification (act does file) file refl
+
+  acted_answers : AnswersOf m answer
+  acted_answers =
+      acted (Bytes → Bytes) (Tells m) (Output m.words) (SomeReadRefused m) (ReadFaultOutput m) m.sink answer
+      (ActionOutput does) (acts_texts does) (m.file file) (λ contents. contents file) (λ contents told. told (act does file) file is names_file)
+      (λ contents wanted bytes o. output.acted does file is o) (named m answer (act does file) is file names_file)
+      (λ contents rose. promises.ReadFaultOutput.specification (act does file, file, is, refl, rose) refl) h
+
+  acted_fits : Contains (answers_of (act does file)) answer
+  acted_fits =
+      of_fits (ActionOutput does) (acts_texts does) (m.file file) m.sink answer (λ a. Contains (answers_of (act does file)) a) (of_action does file)
+      (memory_is does file) (read_is does file) (write_is does file) (long_is does file) h
+
+  action_usage : (text : Bytes) (wanted : Status) (bytes : Bytes) → ActionOutput does text wanted bytes → wanted ≢ status.Usage
+  action_usage text wanted bytes o = ((acts_texts does).answers text wanted bytes o).no_usage
+
+  acted_usage : answer ≢ status.Usage
+  acted_usage =
+      of_fits (ActionOutput does) (acts_texts does) (m.file file) m.sink answer (λ a. a ≢ status.Usage) action_usage
+      (λ f. cc f) (λ f. cc f) (λ f. cc f) (λ f. cc f) h
+
+  -- the command's file is the one that `check` read
+  checked : (text : Bytes) (c : Checks m text) → (does ≡ action.Check) × ((m.file file).told ≡ Some text)
+  checked text c =
+      let same = same_some (act does file) (act action.Check c.file) (sym is ∙ c.command) in
+      (ap (action_in does) same, subst (λ (f : Bytes). (m.file f).told ≡ Some text) (sym (same_some file c.file (ap specification_file same))) c.told)
+
+  output_on : (text : Bytes) → Checks m text → answer ≢ status.NoMemory → answer ≢ status.ReadFault → answer ≢ status.WriteFault
+      → (bytes : Bytes) × ActionOutput action.Check text answer bytes × Writes m.sink bytes
+  output_on text c no_memory no_read no_write =
+      let is = checked text c in
+      let o = of_told (ActionOutput does) (acts_texts does) (m.file file) m.sink answer h no_memory no_read no_write text is.1 in
+      (o.0, subst (λ (a : Action). ActionOutput a text answer o.0) is.0 o.1, o.2)
+
+  certifies : Certifies m answer
+  certifies e text c =
+      let o = output_on text c (λ f. absurd (cc (e, f))) (λ f. absurd (cc (e, f))) (λ f. absurd (cc (e, f))) in
+      let r = certified_output text answer o.0 e o.1 in
+      (r.0, o.0, r.1, r.2, o.2)
+
+  refuses : Refuses m answer
+  refuses e text c =
+      let o = output_on text c (λ f. absurd (cc (e, f))) (λ f. absurd (cc (e, f))) (λ f. absurd (cc (e, f))) in
+      let r = refused_output text answer o.0 e o.1 in
+      (r.0, o.0, r.1, r.2, o.2)
+
+  runs_action : Runs m answer
+  runs_action =
+      all_runs m answer (act does file) is acted_answers left acted_fits acted_usage certifies refuses
+      (λ e text content c. absurd (cc (is, c.command))) (λ e n c. absurd (cc (is, c))) tt tt
+
+-- `simulate`.
+
+fault_not_done : (f : FileFault) → status_of (end_of f) ≢ status.Done
+fault_not_done (long_line n) e = cc e
+fault_not_done (broken_line n rule) e = cc e
+fault_not_done long_file e = cc e
+
+-- where it ends with Done, the only run was written
+traced : (s : Spec) (content : Bytes) (ended : SimEnd) (bytes text : Bytes) → status_of ended ≡ status.Done → IsCertifiedText text s
+    → simulation.Output s program_limits content ended bytes → IsTraced s content bytes
+traced s content ended bytes text e c (done rs formed is_run _ is) =
+    let one = c.deterministic.one_run content formed in
+    record { well_formed = formed; run = rs; is_run = is_run; only = λ other r. one.only other r ∙ sym (one.only rs is_run); text = is }
+traced s content ended bytes text e c (faulty f rs _ _ is _) = absurd (fault_not_done f (ap status_of (sym is) ∙ e))
+
+traced_output : (text content : Bytes) (answer : Status) (bytes : Bytes) → answer ≡ status.Done → SimulateOutput text content answer bytes
+    → (s : Spec) × IsCertifiedText text s × IsTraced s content bytes
+traced_output text content answer bytes e (simulating.checked not_done _) = absurd (not_done e)
+traced_output text content answer bytes e (simulating.SimulateOutput.simulated s ended c o is) =
+    (s, c, traced s content ended bytes text (sym is ∙ e) c o)
+
+abbrev events_of : Bytes → Command → Bytes
+events_of other (act does file) = other
+events_of other (simulate file events) = events
+events_of other (demo n) = other
+events_of other version = other
+
+module _ (m : Meeting) (answer : Status) (file events : Bytes) (is : command_of m.words ≡ Some (simulate file events))
+    (h : HasSimulated file events m.file m.sink answer) (left : LeftOver m (Names (simulate file events))) where
+  names_specification : Names (simulate file events) file
+  names_specification = commands.specification (simulate file events) file refl
+
+  specification_unread : (contents : Bytes → Bytes) → ReadRefused (m.file file) → ReadFaultOutput m contents lines.read
+  specification_unread contents rose = promises.ReadFaultOutput.specification (simulate file events, file, is, refl, rose) refl
+
+  events_are_unread : (contents : Bytes → Bytes) (bytes : Bytes) → EventsUnread file events (m.file events) (contents file) (contents events) bytes
+      → ReadFaultOutput m contents bytes
+  events_are_unread contents bytes u =
+      promises.ReadFaultOutput.events events u.read (record { file = file; command = is; refused = u.refused; reach = u.reach })
+      (record { file = file; command = is; spec = u.spec; certified = u.certified; output = u.output })
+
+  simulated_answers : AnswersOf m answer
+  simulated_answers =
+      simulated (Bytes → Bytes) (Tells m) (Output m.words) (SomeReadRefused m) (ReadFaultOutput m) m.sink answer file events m.file
+      (λ contents. contents file) (λ contents. contents events) (λ contents told. told (simulate file events) file is names_specification)
+      (λ contents told. told (simulate file events) events is (commands.events file events))
+      (λ contents wanted bytes o. output.Output.simulated file events is o) (named m answer (simulate file events) is file names_specification)
+      (named m answer (simulate file events) is events (commands.events file events)) specification_unread events_are_unread h
+
+  -- of a text and the contents of an event file that were told
+  output_of : (text content : Bytes) → (m.file file).told ≡ Some text → (m.file events).told ≡ Some content → answer ≢ status.NoMemory
+      → answer ≢ status.ReadFault → answer ≢ status.WriteFault → (bytes : Bytes) × SimulateOutput text content answer bytes × Writes m.sink bytes
+  output_of text content told told_events no_memory no_read no_write =
+      let all =
+      simulated Bytes (λ c. (m.file events).told ≡ Some c) (λ c. SimulateOutput text c) (ReadRefused (m.file file) ⊎ ReadRefused (m.file events)) (λ c bytes. ⊤)
+      m.sink answer file events m.file (λ c. text) (λ c. c) (λ c _. told) (λ c t. t) (λ c wanted bytes o. o) (λ r. inl r) (λ r. inr r) (λ c r. tt)
+      (λ c bytes u. tt) h in
+      all.answered no_memory no_read no_write content told_events
+
+  traces : Traces m answer
+  traces e text content c =
+      let same = same_some (simulate file events) (simulate c.file c.events) (sym is ∙ c.command) in
+      let of_file = subst (λ (f : Bytes). (m.file f).told ≡ Some text) (sym (same_some file c.file (ap specification_file same))) c.told in
+      let of_events = subst (λ (f : Bytes). (m.file f).told ≡ Some content) (sym (ap (events_of events) same)) c.told_events in
+      let o = output_of text content of_file of_events (λ f. absurd (cc (e, f))) (λ f. absurd (cc (e, f))) (λ f. absurd (cc (e, f))) in
+      let r = traced_output text content answer o.0 e o.1 in
+      (r.0, o.0, r.1, r.2, o.2)
+
+  all_but_usage : (a : Status) → answer ≡ a → answer ≢ status.Usage → Contains (answers_of (simulate file events)) answer
+  all_but_usage status.EventFault e _ = (0, lit< tt, sym e)
+  all_but_usage status.Done e _ = (1, lit< tt, sym e)
+  all_but_usage status.Refused e _ = (2, lit< tt, sym e)
+  all_but_usage status.SpecFault e _ = (3, lit< tt, sym e)
+  all_but_usage status.TooLong e _ = (4, lit< tt, sym e)
+  all_but_usage status.ReadFault e _ = (5, lit< tt, sym e)
+  all_but_usage status.WriteFault e _ = (6, lit< tt, sym e)
+  all_but_usage status.NoMemory e _ = (7, lit< tt, sym e)
+  all_but_usage status.Usage e n = absurd (n e)
+
+  runs_simulation : Runs m answer
+  runs_simulation =
+      let no_usage = never_usage_of file events m.file m.sink answer h in
+      all_runs m answer (simulate file events) is simulated_answers left (all_but_usage answer refl no_usage) no_usage
+      (λ e text c. absurd (cc (is, c.command))) (λ e text c. absurd (cc (is, c.command))) traces (λ e n c. absurd (cc (is, c)))
+      (leaves_events file events m.file m.sink answer h) (event_fault file events m.file m.sink answer h)
+
+-- `demo`.
+
+-- the units of a command, or others in their place
+abbrev units_in : ℕ → Command → ℕ
+units_in other (demo n) = n
+units_in other _ = other
+
+module _ (m : Meeting) (answer : Status) (n : ℕ) (is : command_of m.words ≡ Some (demo n))
+    (h : HasDemonstrated n m.sink answer) (left : LeftOver m (Names (demo n))) where
+  demo_answers : AnswersOf m answer
+  demo_answers =
+      demonstrated n m.sink answer (Bytes → Bytes) (Tells m) (Output m.words) (SomeReadRefused m) (ReadFaultOutput m)
+      (λ contents bytes s. output.demonstrated n is refl s) h
+
+  -- its summary, of nothing
+  summary : answer ≡ status.Done → (bytes : Bytes) × IsSummary n bytes × Writes m.sink bytes
+  summary e =
+      let all = demonstrated n m.sink answer Status (λ a. ⊤) (λ a wanted bytes. IsSummary n bytes) ⊤ (λ a bytes. ⊤) (λ a bytes s. s) h in
+      all.answered (λ f. absurd (cc (e, f))) (λ f. absurd (cc (e, f))) (λ f. absurd (cc (e, f))) answer tt
+
+  demonstrates : Demonstrates m answer
+  demonstrates e k c =
+      let units : n ≡ k = ap (units_in n) (same_some (demo n) (demo k) (sym is ∙ c)) in
+      let o = summary e in
+      (o.0, subst (λ (u : ℕ). IsSummary u o.0) units o.1, o.2)
+
+  runs_demo : Runs m answer
+  runs_demo =
+      all_runs m answer (demo n) is demo_answers left
+      (demonstrated_fits n m.sink answer (λ a. Contains (answers_of (demo n)) a) (0, lit< tt, refl) (2, lit< tt, refl) (1, lit< tt, refl) h)
+      (demonstrated_fits n m.sink answer (λ a. a ≢ status.Usage) (λ f. cc f) (λ f. cc f) (λ f. cc f) h)
+      (λ e text c. absurd (cc (is, c.command))) (λ e text c. absurd (cc (is, c.command))) (λ e text content c. absurd (cc (is, c.command))) demonstrates tt tt
+
+-- `version`.
+
+module _ (m : Meeting) (answer : Status) (is : command_of m.words ≡ Some version) (w : HasWritten m.sink version_text status.Done answer)
+    (left : LeftOver m (Names version)) where
+  runs_version : Runs m answer
+  runs_version =
+      all_runs m answer version is
+      (wrote (Bytes → Bytes) (Tells m) (Output m.words) (SomeReadRefused m) (ReadFaultOutput m) m.sink answer status.Done version_text w
+      (λ f. absurd (cc f)) (λ f. absurd (cc f)) (λ contents _. output.versioned is refl refl)) left
+      (written_fits (λ a. Contains (answers_of version) a) m.sink version_text status.Done answer w (0, lit< tt, refl) (1, lit< tt, refl))
+      (written_fits (λ a. a ≢ status.Usage) m.sink version_text status.Done answer w (λ f. cc f) (λ f. cc f))
+      (λ e text c. absurd (cc (is, c.command))) (λ e text c. absurd (cc (is, c.command))) (λ e text content c. absurd (cc (is, c.command)))
+      (λ e n c. absurd (cc (is, c))) tt tt
+
+-- what `run` promises, from what the command that the words are leaves
+pub runs_command : (m : Meeting) (answer : Status) (c : Command) → command_of m.words ≡ Some c → HasObeyed c m.file m.sink answer
+    → LeftOver m (Names c) → Runs m answer
+runs_command m answer (act does file) is h left = runs_action m answer does file is h left
+runs_command m answer (simulate file events) is h left = runs_simulation m answer file events is h left
+runs_command m answer (demo n) is h left = runs_demo m answer n is h left
+runs_command m answer version is h left = runs_version m answer is h left
+
+-- Words that are no command.
+
+module _ (m : Meeting) (answer : Status) (none : command_of m.words ≡ None) (w : HasWritten m.sink lines.usage status.Usage answer)
+    (left : LeftOver m (λ file. ⊥)) where
+  usage_answers : AnswersOf m answer
+  usage_answers =
+      wrote (Bytes → Bytes) (Tells m) (Output m.words) (SomeReadRefused m) (ReadFaultOutput m) m.sink answer status.Usage lines.usage w
+      (λ f. absurd (cc f)) (λ f. absurd (cc f)) (λ contents _. output.no_command none refl refl)
+
+  -- it is Usage, or tells of a refused write
+  either : (answer ≡ status.Usage) ⊎ (answer ≡ status.WriteFault)
+  either = written_fits (λ a. (a ≡ status.Usage) ⊎ (a ≡ status.WriteFault)) m.sink lines.usage status.Usage answer w (inl refl) (inr refl)
+
+  pub runs_usage : Runs m answer
+  runs_usage = record {
+    answered = usage_answers.answered;
+    usage = record { usage = λ _. either; only = λ e. (none, (w.all (λ f. absurd (cc (e, f)))).1) };
+    no_memory = usage_answers.no_memory;
+    read_fault = usage_answers.read_fault;
+    write_fault = usage_answers.write_fault;
+    prefix = usage_answers.prefix;
+    complete = complete (Bytes → Bytes) (Tells m) (Output m.words) (SomeReadRefused m) (ReadFaultOutput m) m.sink answer usage_answers;
+    certified = λ e text c. absurd (cc (none, c.command));
+    refused = λ e text c. absurd (cc (none, c.command));
+    traced = λ e text content c. absurd (cc (none, c.command));
+    demonstrated = λ e n c. absurd (cc (none, c));
+    others = λ file _. left.others file (λ f. f);
+    unread_events = λ file events c. absurd (cc (none, c));
+    fits = record { command = λ c e. absurd (cc (none, e)); event_fault = λ _ file events c. absurd (cc (none, c)) };
+    counts = left.counts;
+  }

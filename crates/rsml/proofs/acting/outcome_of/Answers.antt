@@ -1,0 +1,13 @@
+use Rattle.rsml.proofs.acting.outcome_of.Goals as goal
+
+pub returns-in-Check : goal.returns-in-Check
+returns-in-Check c = rw c.in-Check.is c.check.ensures
+
+pub returns-in-Explain : goal.returns-in-Explain
+returns-in-Explain c = rw c.in-Explain.is c.explain.ensures
+
+pub returns-in-Format : goal.returns-in-Format
+returns-in-Format c = rw c.in-Format.is c.format.ensures
+
+pub returns-in-Migrate : goal.returns-in-Migrate
+returns-in-Migrate c = rw c.in-Migrate.is c.migrate.ensures

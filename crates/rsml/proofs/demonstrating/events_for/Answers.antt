@@ -1,6 +1,0 @@
-use Rattle.std.specs.Prelude.{string_bytes}
-use Rattle.rsml.proofs.DemoLemmas.{events_answered}
-use Rattle.rsml.proofs.demonstrating.events_for.Goals as goal
-
-pub returns : goal.returns
-returns c = events_answered c.args.units (λ made. string_bytes made) c.generate_events.result c.generate_events.ensures

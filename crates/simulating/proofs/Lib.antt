@@ -1,0 +1,2 @@
+pub mod SimulationLemmas
+pub mod StartLemmas
