@@ -5,11 +5,12 @@ ghost use Rattle.rsml_meaning.specs.Report.{IsReport};
 ghost use Rattle.analysis.specs.Verdicts.{AreVerdicts};
 
 use crate::chains::chains_of;
+use crate::reporting::report;
+use crate::result::Report;
 use elaborate::{Machine, elaborate};
 use event_chains::Chains;
 use finding_texts::Verdict;
 use group_verdicts::verdicts;
-use rsml_report::{Report, report};
 use rsml_syntax::{Checked, NoMemory};
 use std::alloc::Global;
 

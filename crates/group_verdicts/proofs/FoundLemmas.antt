@@ -6,10 +6,10 @@ use Rattle.rsml_syntax.specs.declared.world.World.{World}
 use Rattle.rsml_meaning.specs.Findings as findings
 use Rattle.rsml_meaning.specs.Findings.{IsVerdict}
 use Rattle.rsml_meaning.specs.Groups.{Group, groups}
-use Rattle.counterexample.specs.Least.{IsLeastWorld}
+use Rattle.group_verdicts.specs.Least.{IsLeastWorld}
 use Rattle.elaborate.specs.Machine.{GroundMachine}
 use Rattle.guard_encode.specs.Encoding.{Encoding, Keeps, Tells, TellsExactly}
-use Rattle.failing_worlds.specs.Failing.{enables_none, enables_two}
+use Rattle.group_verdicts.specs.Failing.{enables_none, enables_two}
 use Rattle.group_verdicts.proofs.FailLemmas.{Nowhere, least_none, least_two, no_none, sound}
 
 -- this is so of the group at a place

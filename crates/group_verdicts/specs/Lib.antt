@@ -1,0 +1,6 @@
+pub mod Least
+pub mod Narrowing
+pub mod Finding
+pub mod Kept
+pub mod Counts
+pub mod Failing

@@ -3,12 +3,13 @@ ghost use Rattle.std.specs.List.{AllZip};
 ghost use Rattle.rsml_meaning.specs.Findings.{IsVerdict};
 ghost use Rattle.rsml_meaning.specs.Groups.{Group, groups};
 ghost use Rattle.guard_encode.specs.Encoding.{Keeps};
-ghost use Rattle.failing_worlds.specs.Counts.{AreCounts};
+ghost use Rattle.group_verdicts.specs.Counts.{AreCounts};
 ghost use Rattle.finding_texts.specs.Verdicts.{verdict_of};
 
-use counterexample::least_world;
+use crate::counts::Counts;
+use crate::failing::{none_enabled, two_enabled};
+use crate::least::least_world;
 use elaborate::Machine;
-use failing_worlds::{Counts, none_enabled, two_enabled};
 use finding_texts::Verdict;
 use guard_encode::Encoder;
 use rsml_base::NoMemory;

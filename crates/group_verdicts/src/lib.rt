@@ -1,6 +1,16 @@
-//! What is found of the groups of a machine.
+//! What is found of the groups of a machine: the worlds in which a group fails, and the least of them.
 #![tactic(auto)]
 
+mod blocks;
+mod cells;
+mod choices;
+mod counted;
+mod counts;
+mod failing;
 mod found;
+mod kept;
+mod least;
+mod passing;
+mod reading;
 
 pub use found::{verdicts, verdicts_by};

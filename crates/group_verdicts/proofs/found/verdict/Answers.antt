@@ -1,8 +1,8 @@
 use Rattle.std.proofs.lemmas.Option.{MatchOption-at_none, MatchOption-at_some}
-use Rattle.counterexample.specs.Least.{IsLeastWorld}
+use Rattle.group_verdicts.specs.Least.{IsLeastWorld}
 use Rattle.guard_encode.proofs.StepLemmas.{keeps_on}
-use Rattle.failing_worlds.specs.Failing.{enables_none, enables_two}
-use Rattle.failing_worlds.proofs.CountsLemmas.{counts_on}
+use Rattle.group_verdicts.specs.Failing.{enables_none, enables_two}
+use Rattle.group_verdicts.proofs.CountsLemmas.{counts_on}
 use Rattle.group_verdicts.proofs.FailLemmas.{Nowhere}
 use Rattle.group_verdicts.proofs.FoundLemmas.{at_on, double, missing, neither, nowhere, ref_at, there_on}
 use Rattle.group_verdicts.proofs.found.verdict.Goals as goal

@@ -3,7 +3,7 @@ use Rattle.std.specs.List.{AllZip}
 use Rattle.rsml_meaning.specs.Findings.{IsVerdict}
 use Rattle.rsml_meaning.specs.Groups.{groups}
 use Rattle.guard_encode.specs.Encoding.{Keeps}
-use Rattle.failing_worlds.specs.Counts.{AreCounts}
+use Rattle.group_verdicts.specs.Counts.{AreCounts}
 use Rattle.finding_texts.specs.Verdicts.{verdict_of}
 use Rattle.group_verdicts.proofs.found.verdicts_by.Given as goal
 

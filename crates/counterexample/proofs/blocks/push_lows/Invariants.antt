@@ -1,7 +1,0 @@
-use Rattle.std.proofs.Common.{◌≡◌, ◌++◌, length}
-use Rattle.counterexample.specs.Narrowing.{lows}
-use Rattle.counterexample.proofs.blocks.push_lows.Given as goal
-
--- the least numbers of the cells so far
-abbrev pub invariant-loop-place : goal.invariant-loop-place
-invariant-loop-place l = l.numbers ≡ l.fn.numbers ++ lows l.worlds (length l.fn.numbers) l.place

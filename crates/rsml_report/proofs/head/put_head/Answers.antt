@@ -1,5 +1,0 @@
-use Rattle.text_writer.proofs.WritingLemmas.{followed}
-use Rattle.rsml_report.proofs.head.put_head.Goals as goal
-
-pub returns : goal.returns
-returns g c = followed c.put_name.ensures c.put_groups.ensures

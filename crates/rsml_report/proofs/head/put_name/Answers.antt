@@ -1,5 +1,0 @@
-use Rattle.text_writer.proofs.WritingLemmas.{followed}
-use Rattle.rsml_report.proofs.head.put_name.Goals as goal
-
-pub returns : goal.returns
-returns g c = followed (followed c.put.ensures c.put-2.ensures) c.put_line_end.ensures

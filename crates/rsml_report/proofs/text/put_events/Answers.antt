@@ -1,5 +1,0 @@
-use Rattle.text_writer.proofs.WritingLemmas.{followed}
-use Rattle.rsml_report.proofs.text.put_events.Goals as goal
-
-pub returns : goal.returns
-returns g c = followed c.put_chains.ensures (followed c.put_loops.ensures c.put_clashes.ensures)
