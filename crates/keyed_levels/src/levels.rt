@@ -12,12 +12,22 @@ use world_levels::Layout;
 use worlds::Worlds;
 
 /// The levels of the worlds of a specification, some of which stand for comparisons.
-#[derive(Drop)]
 pub struct KeyedLevels<'m, 'a> {
     macros: &'m Macros<'a>,
     layout: Layout<'m>,
     keyed: Vec<Keyed>,
     places: Vec<Option<u32>>,
+}
+
+impl Drop for KeyedLevels<'_, '_> {
+    fn drop(self) {
+        let Self {
+            macros: _,
+            layout: _,
+            keyed: _,
+            places: _,
+        } = self;
+    }
 }
 
 impl<'m, 'a> Model for KeyedLevels<'m, 'a> {

@@ -3,6 +3,7 @@
 #![tactic(auto)]
 
 mod alike;
+mod bounds;
 mod clusters;
 mod lines;
 mod lists;
@@ -16,8 +17,6 @@ mod sequences;
 mod sets;
 mod sums;
 mod supports;
-#[cfg(test)]
-mod tests;
 mod union_find;
 
 pub use alike::first_alike;

@@ -10,10 +10,15 @@ struct Span {
 }
 
 /// Lists of parts, one behind another. Each has its place as its number.
-#[derive(Drop)]
 pub struct Lists {
     parts: Vec<u32>,
     spans: Vec<Span>,
+}
+
+impl Drop for Lists {
+    fn drop(self) {
+        let Self { parts: _, spans: _ } = self;
+    }
 }
 
 impl Lists {

@@ -1,18 +1,22 @@
 //! The order of the levels.
-use crate::clusters::clusters;
+use crate::bounds::Bounds;
+use crate::clusters::Clusters;
 use crate::parts::{PartKind, Parts};
 use crate::sequences::Sequences;
 use crate::supports::Supports;
-use crate::union_find::UnionFind;
 use elaborate::Machine;
 use keyed_levels::KeyPlace;
 use rsml_base::{List, NoMemory};
 use std::alloc::Global;
 use std::mem;
 
+/// How many cells hang together at least where each stands in the order by its comparisons with numbers.
+const MANY: usize = 3;
+
 /// An order for the levels of a machine, in which what is read together stands together. A comparison that names cells more than once
-/// stands there by itself; cells that meet in sums stand where the first of them does. What no guard reads comes last, and so do
-/// cells that are read in such comparisons alone.
+/// stands there by itself. Two cells that meet in sums stand where the first of them does. Of three and more each stands there by its
+/// comparisons with numbers, and their bits come last of all, unless values of functions name one of them. What no guard reads comes
+/// after the rest, and so do cells that are read in comparisons of several cells alone.
 /// Of comparisons that are alike the first one has a level.
 pub fn order(
     alloc: Global,
@@ -21,9 +25,17 @@ pub fn order(
 ) -> Result<Vec<KeyPlace>, NoMemory> {
     let parts = Parts::new(machine, alike)?;
     let order = parts_in_order(alloc, machine, &parts)?;
-    let mut clusters = clusters(alloc, machine.macros(), parts.cells())?;
+    let bounds = Bounds::new(alloc, machine.macros(), &parts)?;
+    let mut clusters = Clusters::new(alloc, machine.macros(), parts.cells())?;
     let cells = gathered(alloc, &parts, &mut clusters, order.as_slice())?;
-    places(alloc, &parts, &mut clusters, cells, order.as_slice())
+    places(
+        alloc,
+        &parts,
+        &bounds,
+        &mut clusters,
+        cells,
+        order.as_slice(),
+    )
 }
 
 /// The parts in order: what supports have, sequence by sequence, and then the other components and cells.
@@ -64,7 +76,7 @@ fn add_others(
 fn gathered(
     alloc: Global,
     parts: &Parts<'_>,
-    clusters: &mut UnionFind,
+    clusters: &mut Clusters,
     order: &[u32],
 ) -> Result<Vec<List<u32>>, NoMemory> {
     let mut gathered = Vec::new(alloc);
@@ -82,11 +94,12 @@ fn gathered(
     Ok(gathered)
 }
 
-/// The parts as places. Cells that hang together take one place, that of the first of them.
+/// The parts as places. Cells that hang together take one place: that of the first of them, or where they are bounded the last.
 fn places(
     alloc: Global,
     parts: &Parts<'_>,
-    clusters: &mut UnionFind,
+    bounds: &Bounds,
+    clusters: &mut Clusters,
     mut cells: Vec<List<u32>>,
     order: &[u32],
 ) -> Result<Vec<KeyPlace>, NoMemory> {
@@ -96,12 +109,50 @@ fn places(
             PartKind::Component => places.push(KeyPlace::Part(*part))?,
             PartKind::Comparison(phrase) => places.push(KeyPlace::Comparison(phrase))?,
             PartKind::Cell(cell) => {
-                let cluster = taken(alloc, &mut cells, clusters.root(cell));
-                add_cells(&mut places, cluster)?;
+                let root = clusters.root(cell);
+                if are_bounded(clusters, cells.as_slice(), root) {
+                    add_bounds(&mut places, bounds.of(cell))?;
+                } else {
+                    add_cells(&mut places, taken(alloc, &mut cells, root))?;
+                }
             }
         }
     }
+    add_left(alloc, &mut places, parts, clusters, cells, order)?;
     Ok(places)
+}
+
+/// Whether the cells of a root stand in the order by their comparisons with numbers: they are many, and none is in a value.
+fn are_bounded(clusters: &Clusters, cells: &[List<u32>], root: u32) -> bool {
+    match cells.get(root as usize) {
+        Some(cluster) => cluster.as_slice().len() >= MANY && !clusters.is_valued(root),
+        None => false,
+    }
+}
+
+/// Adds the comparisons of one cell.
+fn add_bounds(places: &mut Vec<KeyPlace>, phrases: &[u32]) -> Result<(), NoMemory> {
+    for phrase in phrases {
+        places.push(KeyPlace::Comparison(*phrase))?;
+    }
+    Ok(())
+}
+
+/// Adds the cells that have not been taken, those that hang together at the place of the first of them.
+fn add_left(
+    alloc: Global,
+    places: &mut Vec<KeyPlace>,
+    parts: &Parts<'_>,
+    clusters: &mut Clusters,
+    mut cells: Vec<List<u32>>,
+    order: &[u32],
+) -> Result<(), NoMemory> {
+    for part in order {
+        if let PartKind::Cell(cell) = parts.kind(*part) {
+            add_cells(places, taken(alloc, &mut cells, clusters.root(cell)))?;
+        }
+    }
+    Ok(())
 }
 
 /// Takes a cluster out of where it was gathered.

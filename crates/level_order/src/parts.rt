@@ -70,6 +70,11 @@ impl<'p> Parts<'p> {
         self.first_comparison.saturating_add(first)
     }
 
+    /// Whether a phrase is the first of those like it.
+    pub fn is_first(&self, phrase: u32) -> bool {
+        self.comparison(phrase) == self.first_comparison.saturating_add(phrase)
+    }
+
     /// Of what a part is.
     pub fn kind(&self, part: u32) -> PartKind {
         if let Some(phrase) = part.checked_sub(self.first_comparison) {

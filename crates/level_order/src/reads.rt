@@ -8,7 +8,6 @@ use std::alloc::Global;
 
 /// What states, phrases and definitions read: the parts on which it rests whether a state is active and whether a phrase or a table
 /// is true, in the order in which they are named, each once. Of more parts than a support may have only the first ones are kept.
-#[derive(Drop)]
 pub struct Reads {
     /// For each state the components around it.
     lines: Lists,
@@ -18,6 +17,17 @@ pub struct Reads {
     of_phrases: Vec<usize>,
     /// For each definition the number of its list, where it has one.
     of_definitions: Vec<Option<usize>>,
+}
+
+impl Drop for Reads {
+    fn drop(self) {
+        let Self {
+            lines: _,
+            lists: _,
+            of_phrases: _,
+            of_definitions: _,
+        } = self;
+    }
 }
 
 impl Reads {

@@ -6,7 +6,6 @@ use std::alloc::Global;
 
 /// Sequences of parts: each part stands in one. At first each is a sequence of its own. To put one behind another takes nearly
 /// constant time, however long they are: only the last part of the one and the first of the other are looked at.
-#[derive(Drop)]
 pub struct Sequences {
     /// How many parts there are.
     count: u32,
@@ -18,6 +17,18 @@ pub struct Sequences {
     next: Vec<Option<u32>>,
     /// The parts that stand in supports.
     read: Marks,
+}
+
+impl Drop for Sequences {
+    fn drop(self) {
+        let Self {
+            count: _,
+            firsts: _,
+            last: _,
+            next: _,
+            read: _,
+        } = self;
+    }
 }
 
 impl Sequences {

@@ -8,10 +8,15 @@ pub const MOST_PARTS: usize = 64;
 
 /// Parts in the order in which they were added, each once. One more than a support may have tells that there are too many, and no
 /// more are added.
-#[derive(Drop)]
 pub struct PartSet {
     parts: Vec<u32>,
     is_in: Marks,
+}
+
+impl Drop for PartSet {
+    fn drop(self) {
+        let Self { parts: _, is_in: _ } = self;
+    }
 }
 
 impl PartSet {

@@ -26,6 +26,14 @@ fn named_by(left: &GroundSum, right: &GroundSum) -> Named {
     named
 }
 
+/// The cell that two sums name, where they name one alone.
+pub fn only_cell(left: &GroundSum, right: &GroundSum) -> Option<u32> {
+    match named_by(left, right) {
+        Named::OneCell(cell) => Some(cell),
+        _ => None,
+    }
+}
+
 /// Puts what the comparison of a phrase reads into a set: its cell, or where it names several the level that it has of its own.
 pub fn put_comparison(
     parts: &Parts<'_>,

@@ -11,8 +11,9 @@ use keyed_levels::KeyedLevels;
 use rsml_base::NoMemory;
 use std::alloc::Global;
 
-/// The cell that some key that is left reads, and for which the cells of the keys that read it and those that stand in the
-/// function already are fewest: the last of several. It is not the one that is kept. None where no key that is left reads another.
+/// The cell for which the cells of the keys that are left and read it and those that stand in the function already are fewest: the
+/// last of several. Some such key reads it, or it stands in the function and none does. It is not the one that is kept. None where no
+/// key that is left reads another.
 pub(crate) fn next_cell(
     alloc: Global,
     levels: &KeyedLevels<'_, '_>,
@@ -25,6 +26,9 @@ pub(crate) fn next_cell(
 {
     let cells = levels.layout().cells();
     let beside = beside(alloc, levels, left, cells)?;
+    if !some_is_read(beside.as_slice(), kept, cells) {
+        return Ok(None);
+    }
     let standing = standing(alloc, levels, used, cells)?;
     fewest(alloc, beside.as_slice(), standing.as_slice(), kept, cells)
 }
@@ -79,6 +83,18 @@ fn push_beside(beside: &mut Vec<Vec<u32>>, cell: usize, named: &[u32]) -> Result
     Ok(())
 }
 
+/// Whether some cell but the one that is kept has others beside it.
+fn some_is_read(beside: &[Vec<u32>], kept: Option<u32>, cells: u32) -> bool
+    requires { length beside.now ≡ cells }
+{
+    for cell in 0..cells {
+        if !is_kept(kept, cell) && !beside[cell as usize].is_empty() {
+            return true;
+        }
+    }
+    false
+}
+
 /// For each of the cells whether the function may depend on one of its levels.
 fn standing(
     alloc: Global,
@@ -103,8 +119,8 @@ fn stands(levels: &KeyedLevels<'_, '_>, used: &[bool], cell: u32) -> bool
         .any(|bit| is_used(used, bit.level))
 }
 
-/// The cell with some others beside it, of which the fewest do not stand in the function: the last of several, and not the one
-/// that is kept.
+/// The cell with the fewest others beside it that do not stand in the function: the last of several, and not the one that is kept. A
+/// cell with none beside it stands in the function.
 fn fewest(
     alloc: Global,
     beside: &[Vec<u32>],
@@ -121,12 +137,17 @@ fn fewest(
     for cell in 0..cells {
         let others = beside[cell as usize].as_slice();
         let count = fresh(others, standing, &mut counted, cell);
-        if !is_kept(kept, cell) && !others.is_empty() && count <= least {
+        if !is_kept(kept, cell) && may_go(others, standing, cell) && count <= least {
             best = Some(cell);
             least = count;
         }
     }
     Ok(best)
+}
+
+/// Whether a cell has others beside it, or stands in the function.
+fn may_go(others: &[u32], standing: &[bool], cell: u32) -> bool {
+    !others.is_empty() || standing.get(cell as usize).copied().unwrap_or(false)
 }
 
 /// Whether a cell is the one that is kept.

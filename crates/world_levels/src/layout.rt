@@ -21,13 +21,24 @@ use std::marker::Model;
 use worlds::Worlds;
 
 /// The levels of the worlds of a specification. Contracts see them as the specification and the slots of the levels.
-#[derive(Drop)]
 pub struct Layout<'a> {
     worlds: &'a Worlds<'a>,
     parts: u32,
     slots: Vec<Slot>,
     free: Vec<u32>,
     bits: Vec<List<Weighted>>,
+}
+
+impl Drop for Layout<'_> {
+    fn drop(self) {
+        let Self {
+            worlds: _,
+            parts: _,
+            slots: _,
+            free: _,
+            bits: _,
+        } = self;
+    }
 }
 
 impl<'a> Model for Layout<'a> {
