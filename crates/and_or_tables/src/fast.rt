@@ -11,10 +11,19 @@ use std::alloc::Global;
 use std::marker::Model;
 
 /// A ground table that is asked as masks. Contracts see it as the table that it was built of.
-#[derive(Debug, Drop)]
+#[derive(Debug)]
 pub struct FastTable {
     phrases: Vec<u32>,
     masks: MaskTable,
+}
+
+impl Drop for FastTable {
+    fn drop(self) {
+        let Self {
+            phrases: _,
+            masks: _,
+        } = self;
+    }
 }
 
 impl Model for FastTable {

@@ -13,11 +13,21 @@ use std::marker::Model;
 
 /// A table whose columns are words. It is asked with its rows' truths as the bits of a word: bit k,
 /// from 0, is the truth of row k + 1. Contracts see it as the cells of its rows.
-#[derive(Debug, Drop)]
+#[derive(Debug)]
 pub struct MaskTable {
     rows: usize,
     care: Vec<u64>,
     want: Vec<u64>,
+}
+
+impl Drop for MaskTable {
+    fn drop(self) {
+        let Self {
+            rows: _,
+            care: _,
+            want: _,
+        } = self;
+    }
 }
 
 impl Model for MaskTable {

@@ -22,12 +22,22 @@ use std::marker::Model;
 /// answers the handle of its function, and where memory is refused `NoMemory`; in both cases every
 /// earlier handle keeps its node and its function. No node is ever freed. Contracts see the arena
 /// as the number of its levels and the list of its nodes.
-#[derive(Drop)]
 pub struct Arena {
     levels: u32,
     nodes: Unique,
     choices: Computed,
     cuts: Computed,
+}
+
+impl Drop for Arena {
+    fn drop(self) {
+        let Self {
+            levels: _,
+            nodes: _,
+            choices: _,
+            cuts: _,
+        } = self;
+    }
 }
 
 impl Model for Arena {

@@ -16,10 +16,18 @@ const FIRST_BUCKETS: usize = 64;
 /// A unique table: the nodes in the order of their places, of which the first two are the constants.
 /// Each other node is in a bucket, whose nodes are a chain from the last of them down. Contracts see
 /// it as the list of its nodes.
-#[derive(Drop)]
 pub struct Unique {
     entries: Vec<Entry>,
     heads: Vec<u32>,
+}
+
+impl Drop for Unique {
+    fn drop(self) {
+        let Self {
+            entries: _,
+            heads: _,
+        } = self;
+    }
 }
 
 impl Model for Unique {

@@ -13,10 +13,18 @@ use std::alloc::Global;
 use std::marker::Model;
 
 /// The transitions and cases of sends of a specification with its phrases, and its groups.
-#[derive(Drop)]
 pub struct Behaviour<'a> {
     members: Members<'a>,
     groups: Groups<'a>,
+}
+
+impl Drop for Behaviour<'_> {
+    fn drop(self) {
+        let Self {
+            members: _,
+            groups: _,
+        } = self;
+    }
 }
 
 impl<'a> Model for Behaviour<'a> {

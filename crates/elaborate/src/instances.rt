@@ -7,10 +7,18 @@ use std::marker::Model;
 use worlds::Worlds;
 
 /// The worlds of a specification, and the numbers of its instances.
-#[derive(Drop)]
 pub struct Instances<'a> {
     worlds: Worlds<'a>,
     names: Names<'a>,
+}
+
+impl Drop for Instances<'_> {
+    fn drop(self) {
+        let Self {
+            worlds: _,
+            names: _,
+        } = self;
+    }
 }
 
 impl<'a> Model for Instances<'a> {

@@ -30,11 +30,20 @@ use worlds::Worlds;
 /// A checked specification over numbers: its states, components, events, cells, receives, sends, macros and functions,
 /// transitions, cases of sends and groups are named by their places in the lists of the definitions. Only `elaborate`
 /// and `initial` take memory.
-#[derive(Drop)]
 pub struct Machine<'a> {
     instances: Instances<'a>,
     receives: Receives<'a>,
     behaviour: Behaviour<'a>,
+}
+
+impl Drop for Machine<'_> {
+    fn drop(self) {
+        let Self {
+            instances: _,
+            receives: _,
+            behaviour: _,
+        } = self;
+    }
 }
 
 impl<'a> Model for Machine<'a> {

@@ -14,7 +14,6 @@ use std::alloc::Global;
 use std::marker::Model;
 
 /// The phrases, transitions and cases of sends of a specification, and what there is on each event.
-#[derive(Drop)]
 pub struct Members<'a> {
     macros: Macros<'a>,
     transitions: Vec<SharedTransition>,
@@ -23,6 +22,20 @@ pub struct Members<'a> {
     send_cases: Vec<SharedSendCase>,
     case_count: u32,
     cases_on: Vec<Vec<u32>>,
+}
+
+impl Drop for Members<'_> {
+    fn drop(self) {
+        let Self {
+            macros: _,
+            transitions: _,
+            count: _,
+            on: _,
+            send_cases: _,
+            case_count: _,
+            cases_on: _,
+        } = self;
+    }
 }
 
 impl<'a> Model for Members<'a> {

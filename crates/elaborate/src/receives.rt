@@ -12,11 +12,20 @@ use std::alloc::Global;
 use std::marker::Model;
 
 /// The receives of a specification, and which of its events are external.
-#[derive(Drop)]
 pub struct Receives<'a> {
     interfaces: Interfaces<'a>,
     count: u32,
     external: Vec<bool>,
+}
+
+impl Drop for Receives<'_> {
+    fn drop(self) {
+        let Self {
+            interfaces: _,
+            count: _,
+            external: _,
+        } = self;
+    }
 }
 
 impl<'a> Model for Receives<'a> {

@@ -22,11 +22,20 @@ use std::marker::Model;
 
 /// The chains of events of a specification. Events are named by their places. Only `build` takes
 /// memory.
-#[derive(Drop)]
 pub struct Chains<'a> {
     spec: &'a Spec,
     chains: GraphChains,
     externals: Vec<External>,
+}
+
+impl Drop for Chains<'_> {
+    fn drop(self) {
+        let Self {
+            spec: _,
+            chains: _,
+            externals: _,
+        } = self;
+    }
 }
 
 impl<'a> Model for Chains<'a> {

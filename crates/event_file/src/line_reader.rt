@@ -1,4 +1,4 @@
-ghost use Rattle.std.specs.Prelude.{◌≡◌, ◌≢◌, ◌↔◌, ℕ, ◌+◌, ◌<◌, ◌≤◌, List, Ok, Some, None, true, length, IfOk, IfSome, OnErr};
+ghost use Rattle.std.specs.Prelude.{◌≡◌, ◌≢◌, ◌↔◌, ℕ, ◌+◌, ◌*◌, ◌<◌, ◌≤◌, List, Ok, Some, None, true, length, IfOk, IfSome, OnErr};
 ghost use Rattle.rsml_io.specs.Counts.{Rose};
 ghost use Rattle.event_file.specs.Fronts.{HasNoEnd, IsFront};
 ghost use Rattle.event_file.specs.Reading.{limits_of, IsAllowed, new_reading, taken, HoldsLine, Fits, Answers};
@@ -81,9 +81,10 @@ impl LineReader {
         self.number
     }
 
-    /// The bytes that are held, from the beginning of the next line on.
+    /// The bytes that are held, from the beginning of the next line on: never more than four of the longest lines, each with its LF.
     pub fn held(&self) -> &[u8]
-        ensures { result.now ≡ self.now.held }
+        ensures held { result.now ≡ self.now.held }
+        ensures room { length self.now.held ≤ 4 * (self.now.limits.line + 1) }
     {
         self.buffer.held()
     }

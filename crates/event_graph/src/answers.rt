@@ -10,12 +10,22 @@ use rsml_base::NoMemory;
 use std::alloc::Global;
 
 /// The lengths, the loops and the first clashes of a graph.
-#[derive(Drop)]
 pub struct Answers {
     pub lengths: Vec<Option<u32>>,
     pub loops: Vec<u32>,
     pub firsts: Vec<Option<Clash>>,
     pub clashes: Vec<Clash>,
+}
+
+impl Drop for Answers {
+    fn drop(self) {
+        let Self {
+            lengths: _,
+            loops: _,
+            firsts: _,
+            clashes: _,
+        } = self;
+    }
 }
 
 impl Answers {

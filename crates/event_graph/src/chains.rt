@@ -13,10 +13,18 @@ use std::marker::Model;
 
 /// A graph with the lengths, the loops and the first clashes of its chains. Contracts see the
 /// graph.
-#[derive(Drop)]
 pub struct Chains {
     graph: EventGraph,
     answers: Answers,
+}
+
+impl Drop for Chains {
+    fn drop(self) {
+        let Self {
+            graph: _,
+            answers: _,
+        } = self;
+    }
 }
 
 impl Model for Chains {

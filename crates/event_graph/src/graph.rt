@@ -10,12 +10,22 @@ use std::marker::Model;
 
 /// Events, which are the numbers below a count of at most 1,024: which leads to which, which begin
 /// chains, and which meet.
-#[derive(Drop)]
 pub struct EventGraph {
     count: u32,
     ways: Vec<Events>,
     begun: Events,
     pairs: Vec<Events>,
+}
+
+impl Drop for EventGraph {
+    fn drop(self) {
+        let Self {
+            count: _,
+            ways: _,
+            begun: _,
+            pairs: _,
+        } = self;
+    }
 }
 
 impl Model for EventGraph {

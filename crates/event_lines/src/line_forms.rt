@@ -25,12 +25,22 @@ use std::str::from_utf8;
 
 /// How the event lines of a specification are written: its receives with their fields, and the
 /// values of these. Contracts see it as the specification.
-#[derive(Drop)]
 pub struct LineForms<'a> {
     spec: &'a Spec,
     receives: Receives<'a>,
     types: Vec<ValueType<'a>>,
     forms: Vec<Option<Form<'a>>>,
+}
+
+impl Drop for LineForms<'_> {
+    fn drop(self) {
+        let Self {
+            spec: _,
+            receives: _,
+            types: _,
+            forms: _,
+        } = self;
+    }
 }
 
 impl<'a> Model for LineForms<'a> {

@@ -10,11 +10,20 @@ use std::alloc::Global;
 use std::marker::Model;
 
 /// The declaration of each global name. Contracts see the declarations.
-#[derive(Drop)]
 pub struct Owners<'a> {
     decls: &'a [Decl],
     names: NameList<'a>,
     numbers: Vec<usize>,
+}
+
+impl Drop for Owners<'_> {
+    fn drop(self) {
+        let Self {
+            decls: _,
+            names: _,
+            numbers: _,
+        } = self;
+    }
 }
 
 impl<'a> Model for Owners<'a> {

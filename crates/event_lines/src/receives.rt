@@ -11,10 +11,18 @@ use std::alloc::Global;
 use std::marker::Model;
 
 /// The declaration of each global name, those of the first receives at hand. Contracts see the declarations.
-#[derive(Drop)]
 pub struct Receives<'a> {
     owners: Owners<'a>,
     first: Vec<Known<'a>>,
+}
+
+impl Drop for Receives<'_> {
+    fn drop(self) {
+        let Self {
+            owners: _,
+            first: _,
+        } = self;
+    }
 }
 
 impl<'a> Model for Receives<'a> {

@@ -21,12 +21,22 @@ use std::marker::Model;
 
 /// A type of inputs: its least and its greatest number, and for an enumeration the names of 0, 1, 2
 /// and so on, the first of them at hand.
-#[derive(Drop)]
 pub struct ValueType<'a> {
     low: i64,
     high: i64,
     names: NameList<'a>,
     first: Vec<Known<'a>>,
+}
+
+impl Drop for ValueType<'_> {
+    fn drop(self) {
+        let Self {
+            low: _,
+            high: _,
+            names: _,
+            first: _,
+        } = self;
+    }
 }
 
 impl<'a> Model for ValueType<'a> {

@@ -15,11 +15,20 @@ use std::marker::Model;
 use text_writer::Writer;
 
 /// The texts of what is found of the groups of a machine. Only `new` takes memory. Contracts see the machine.
-#[derive(Drop)]
 pub struct Findings<'m, 'a> {
     machine: &'m Machine<'a>,
     texts: Texts<'a>,
     truths: Truths,
+}
+
+impl Drop for Findings<'_, '_> {
+    fn drop(self) {
+        let Self {
+            machine: _,
+            texts: _,
+            truths: _,
+        } = self;
+    }
 }
 
 impl<'m, 'a> Model for Findings<'m, 'a> {

@@ -14,10 +14,18 @@ use rsml_syntax::NoMemory;
 use std::alloc::Global;
 
 /// Keys in order, each once, and the places of each.
-#[derive(Drop)]
 pub struct Lots {
     pub heads: IndexSet<Key>,
     pub places: Vec<Vec<u32>>,
+}
+
+impl Drop for Lots {
+    fn drop(self) {
+        let Self {
+            heads: _,
+            places: _,
+        } = self;
+    }
 }
 
 // The keys in order, and the places of each.

@@ -16,7 +16,6 @@ use crate::places::number_of;
 use rsml_syntax::NoMemory;
 
 /// What is stored of all groups.
-#[derive(Drop)]
 pub struct Stored {
     pub states: Lots,
     pub lines: Vec<Line>,
@@ -24,6 +23,19 @@ pub struct Stored {
     pub sends: Lots,
     pub functions: Vec<FunctionGroup>,
     pub count: u32,
+}
+
+impl Drop for Stored {
+    fn drop(self) {
+        let Self {
+            states: _,
+            lines: _,
+            below: _,
+            sends: _,
+            functions: _,
+            count: _,
+        } = self;
+    }
 }
 
 /// How many groups there are in all.

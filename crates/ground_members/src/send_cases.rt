@@ -11,21 +11,39 @@ use rsml_syntax::{List, NoMemory};
 use std::alloc::Global;
 
 /// What a field gets: the number of a sum, or the value of a function instance.
-#[derive(Debug, Drop)]
+#[derive(Debug)]
 pub enum GroundValue {
     Sum(GroundSum),
     Function(u32),
 }
 
+impl Drop for GroundValue {
+    fn drop(self) {
+        match self {
+            Self::Sum(_) => {}
+            Self::Function(_) => {}
+        }
+    }
+}
+
 /// What a case of a send answers: nothing, or a value for each field.
-#[derive(Debug, Drop)]
+#[derive(Debug)]
 pub enum GroundAnswer {
     Quiet,
     Values(List<GroundValue>),
 }
 
+impl Drop for GroundAnswer {
+    fn drop(self) {
+        match self {
+            Self::Quiet => {}
+            Self::Values(_) => {}
+        }
+    }
+}
+
 /// A case of a send instance.
-#[derive(Debug, Drop)]
+#[derive(Debug)]
 pub struct GroundSendCase {
     pub send: u32,
     pub event: u32,
@@ -33,6 +51,18 @@ pub struct GroundSendCase {
     pub answer: GroundAnswer,
     /// Its place among the cases of the send, counted from 1.
     pub ordinal: u32,
+}
+
+impl Drop for GroundSendCase {
+    fn drop(self) {
+        let Self {
+            send: _,
+            event: _,
+            guard: _,
+            answer: _,
+            ordinal: _,
+        } = self;
+    }
 }
 
 /// The cases of the sends of a specification, over numbers, in order. Phrases that their guards need are added.

@@ -11,10 +11,15 @@ use std::marker::Model;
 use std::rc::Rc;
 
 // A case of a send, and its guard prepared to be asked.
-#[derive(Drop)]
 struct WholeCase {
     case: GroundSendCase,
     fast: FastGuard,
+}
+
+impl Drop for WholeCase {
+    fn drop(self) {
+        let Self { case: _, fast: _ } = self;
+    }
 }
 
 /// A case of a send that has all but the send in common with those like it, with its guard prepared to be asked. Contracts

@@ -11,10 +11,18 @@ use std::marker::Model;
 use std::rc::Rc;
 
 // A transition, and its guard prepared to be asked.
-#[derive(Drop)]
 struct Whole {
     transition: GroundTransition,
     fast: FastGuard,
+}
+
+impl Drop for Whole {
+    fn drop(self) {
+        let Self {
+            transition: _,
+            fast: _,
+        } = self;
+    }
 }
 
 /// A transition that has all but its source in common with those like it, with its guard prepared to be asked. Contracts

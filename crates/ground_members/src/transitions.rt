@@ -22,7 +22,7 @@ use std::alloc::Global;
 
 /// A transition of one component from one source. A stay has no target. States, components and events are named by
 /// their places among the instances.
-#[derive(Debug, Drop)]
+#[derive(Debug)]
 pub struct GroundTransition {
     pub component: u32,
     pub source: u32,
@@ -32,6 +32,20 @@ pub struct GroundTransition {
     pub raises: List<u32>,
     /// Its place in its component, counted from 1.
     pub ordinal: u32,
+}
+
+impl Drop for GroundTransition {
+    fn drop(self) {
+        let Self {
+            component: _,
+            source: _,
+            target: _,
+            event: _,
+            guard: _,
+            raises: _,
+            ordinal: _,
+        } = self;
+    }
 }
 
 // A transition as it is written, over numbers, from one of its sources.

@@ -19,7 +19,6 @@ use std::marker::Model;
 
 /// The diagrams of a machine: functions of levels that spell its worlds, all in one arena. Contracts see it as the machine, the
 /// slots of the levels, the levels that stand for comparisons, and the nodes of the arena.
-#[derive(Drop)]
 pub struct Encoder<'m, 'a> {
     pub(crate) machine: &'m Machine<'a>,
     pub(crate) levels: KeyedLevels<'m, 'a>,
@@ -28,6 +27,20 @@ pub struct Encoder<'m, 'a> {
     pub(crate) exact: ExactKeys,
     pub(crate) active: Vec<Ref>,
     pub(crate) phrases: Vec<Ref>,
+}
+
+impl Drop for Encoder<'_, '_> {
+    fn drop(self) {
+        let Self {
+            machine: _,
+            levels: _,
+            arena: _,
+            sums: _,
+            exact: _,
+            active: _,
+            phrases: _,
+        } = self;
+    }
 }
 
 impl<'m, 'a> Model for Encoder<'m, 'a> {

@@ -21,10 +21,19 @@ use std::alloc::Global;
 use world_levels::{Layout, world_laws};
 
 /// Whether each component and each cell is read.
-#[derive(Debug, Drop)]
+#[derive(Debug)]
 pub struct ReadParts {
     pub choices: List<bool>,
     pub cells: List<bool>,
+}
+
+impl Drop for ReadParts {
+    fn drop(self) {
+        let Self {
+            choices: _,
+            cells: _,
+        } = self;
+    }
 }
 
 impl<'m, 'a> Encoder<'m, 'a> {

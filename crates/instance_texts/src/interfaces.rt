@@ -12,11 +12,20 @@ use rsml_syntax::{Decl, NoMemory};
 use std::alloc::Global;
 
 /// The instances of macros and functions, of receives, and of sends.
-#[derive(Drop)]
 pub struct Interfaces<'a> {
     pub definitions: Vec<Listed<'a>>,
     pub receives: Vec<Listed<'a>>,
     pub sends: Vec<Listed<'a>>,
+}
+
+impl Drop for Interfaces<'_> {
+    fn drop(self) {
+        let Self {
+            definitions: _,
+            receives: _,
+            sends: _,
+        } = self;
+    }
 }
 
 impl<'a> Interfaces<'a> {

@@ -24,12 +24,22 @@ use text_writer::Writer;
 
 /// The names of the instances of a specification, which they borrow. Each is found by its place in the list of the
 /// definitions. Only `build` takes memory. Contracts see the specification.
-#[derive(Drop)]
 pub struct Texts<'a> {
     spec: &'a Spec,
     events: Vec<Listed<'a>>,
     cells: Vec<CellRef<'a>>,
     interfaces: Interfaces<'a>,
+}
+
+impl Drop for Texts<'_> {
+    fn drop(self) {
+        let Self {
+            spec: _,
+            events: _,
+            cells: _,
+            interfaces: _,
+        } = self;
+    }
 }
 
 impl<'a> Model for Texts<'a> {

@@ -19,11 +19,20 @@ use std::alloc::Global;
 use std::marker::Model;
 
 /// The receives of a specification, by their numbers: the places of their instances.
-#[derive(Drop)]
 pub struct Interfaces<'a> {
     spec: &'a Spec,
     names: Instances<'a>,
     table: Table,
+}
+
+impl Drop for Interfaces<'_> {
+    fn drop(self) {
+        let Self {
+            spec: _,
+            names: _,
+            table: _,
+        } = self;
+    }
 }
 
 impl<'a> Model for Interfaces<'a> {

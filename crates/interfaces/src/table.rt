@@ -16,10 +16,18 @@ use state_arrays::Names;
 use std::alloc::Global;
 
 /// What is kept of receives, and their fields, those of one receive behind those of another.
-#[derive(Drop)]
 pub struct Table {
     pub fields: Vec<Field>,
     pub receives: Vec<Receive>,
+}
+
+impl Drop for Table {
+    fn drop(self) {
+        let Self {
+            fields: _,
+            receives: _,
+        } = self;
+    }
 }
 
 impl Table {

@@ -41,13 +41,24 @@ use std::alloc::Global;
 use std::marker::Model;
 
 /// The phrases of a specification, and its macro and function instances.
-#[derive(Drop)]
 pub struct Macros<'a> {
     spec: &'a Spec,
     phrases: Phrases,
     definitions: Vec<Definition>,
     tables: Vec<List<FastGuard>>,
     pairs: Vec<Option<Pair>>,
+}
+
+impl Drop for Macros<'_> {
+    fn drop(self) {
+        let Self {
+            spec: _,
+            phrases: _,
+            definitions: _,
+            tables: _,
+            pairs: _,
+        } = self;
+    }
 }
 
 impl<'a> Model for Macros<'a> {

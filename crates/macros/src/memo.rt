@@ -8,11 +8,21 @@ use std::marker::Model;
 
 /// What is known of the truths of phrases in one world, by their numbers from 0. Contracts see it as a list, with
 /// None for each phrase whose truth is not known.
-#[derive(Debug, Drop)]
+#[derive(Debug)]
 pub struct Memo {
     truths: Truths,
     marks: Vec<u32>,
     epoch: u32,
+}
+
+impl Drop for Memo {
+    fn drop(self) {
+        let Self {
+            truths: _,
+            marks: _,
+            epoch: _,
+        } = self;
+    }
 }
 
 impl Model for Memo {

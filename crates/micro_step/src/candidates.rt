@@ -18,12 +18,22 @@ use state_choices::{Choice, are_chosen};
 
 /// A transition, or a case of a send, by its number: the children that make its source active, and how its guard is asked. Where
 /// the truth of the guard is kept once it is known, it is kept at the number of a transition with the same guard.
-#[derive(Drop)]
 pub struct Candidate {
     pub number: u32,
     pub choices: Vec<Choice>,
     pub asked: Asked,
     pub kept_at: Option<u32>,
+}
+
+impl Drop for Candidate {
+    fn drop(self) {
+        let Self {
+            number: _,
+            choices: _,
+            asked: _,
+            kept_at: _,
+        } = self;
+    }
 }
 
 /// Whether the guard of a candidate is true in the world. One whose truth is kept is asked once.

@@ -29,7 +29,6 @@ use std::marker::Model;
 /// What a machine keeps for its micro-steps: what is known of the phrases and of the guards of transitions, the taken
 /// transitions, the send cases that are enabled, and their values; and for each event what may be enabled on it. Only `new`
 /// takes memory.
-#[derive(Drop)]
 pub struct Scratch {
     memo: Memo,
     guards: Memo,
@@ -39,6 +38,21 @@ pub struct Scratch {
     transitions: Vec<Vec<Candidate>>,
     cases: Vec<Vec<Candidate>>,
     states: Vec<Vec<StatePhrase>>,
+}
+
+impl Drop for Scratch {
+    fn drop(self) {
+        let Self {
+            memo: _,
+            guards: _,
+            taken: _,
+            sent: _,
+            values: _,
+            transitions: _,
+            cases: _,
+            states: _,
+        } = self;
+    }
 }
 
 impl Model for Scratch {

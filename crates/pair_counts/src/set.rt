@@ -12,10 +12,18 @@ use std::hash::Hash;
 
 /// The places of the numbers of a list: of a short one they are listed, so that it takes no more
 /// room than its list.
-#[derive(Drop)]
 pub enum Set {
     Few(Vec<usize>),
     Many(Bits),
+}
+
+impl Drop for Set {
+    fn drop(self) {
+        match self {
+            Self::Few(_) => {}
+            Self::Many(_) => {}
+        }
+    }
 }
 
 impl Set {

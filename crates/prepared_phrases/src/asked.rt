@@ -23,11 +23,20 @@ pub struct Literal {
 
 /// How a guard is asked: by the one phrase that decides it, or column by column, each up to the first phrase that is not as it
 /// is wanted, or, where there are many cells, each phrase once.
-#[derive(Drop)]
 pub enum Asked {
     Single(Literal),
     Columns(Vec<Vec<Literal>>),
     Masks(FastGuard),
+}
+
+impl Drop for Asked {
+    fn drop(self) {
+        match self {
+            Self::Single(_) => {}
+            Self::Columns(_) => {}
+            Self::Masks(_) => {}
+        }
+    }
 }
 
 /// Puts what a cell wants of a phrase behind other literals; a dot wants nothing.

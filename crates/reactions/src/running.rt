@@ -27,7 +27,6 @@ use trace_texts::Traces;
 /// round, so that it can be asked what was true there: what that round moved is entered when the next one begins, and so is the message
 /// that came since. Only `new` takes memory. Contracts see the machine, its world, in which all is entered, its present events and its last
 /// round.
-#[derive(Drop)]
 pub struct Running<'m, 'a> {
     machine: &'m Machine<'a>,
     traces: Traces<'m, 'a>,
@@ -36,6 +35,20 @@ pub struct Running<'m, 'a> {
     present: Events,
     before: Events,
     waiting: Waiting,
+}
+
+impl Drop for Running<'_, '_> {
+    fn drop(self) {
+        let Self {
+            machine: _,
+            traces: _,
+            scratch: _,
+            world: _,
+            present: _,
+            before: _,
+            waiting: _,
+        } = self;
+    }
 }
 
 impl<'m, 'a> Model for Running<'m, 'a> {

@@ -3,22 +3,46 @@ use and_or_tables::GroundTable;
 use rsml_syntax::List;
 
 /// A guard: always true, or a table.
-#[derive(Debug, Drop)]
+#[derive(Debug)]
 pub enum GroundGuard {
     Always,
     Table(GroundTable),
 }
 
+impl Drop for GroundGuard {
+    fn drop(self) {
+        match self {
+            Self::Always => {}
+            Self::Table(_) => {}
+        }
+    }
+}
+
 /// A case of a function: its value where its guard is true.
-#[derive(Debug, Drop)]
+#[derive(Debug)]
 pub struct GroundCase {
     pub value: GroundSum,
     pub guard: GroundGuard,
 }
 
+impl Drop for GroundCase {
+    fn drop(self) {
+        let Self { value: _, guard: _ } = self;
+    }
+}
+
 /// An instance of a macro, or of a function.
-#[derive(Debug, Drop)]
+#[derive(Debug)]
 pub enum Definition {
     Macro(GroundTable),
     Function(List<GroundCase>),
+}
+
+impl Drop for Definition {
+    fn drop(self) {
+        match self {
+            Self::Macro(_) => {}
+            Self::Function(_) => {}
+        }
+    }
 }

@@ -2,7 +2,7 @@ use crate::sums::GroundSum;
 use rsml_syntax::{List, Relation};
 
 /// A phrase over numbers: of states, of macros and functions, of cells, and of other phrases.
-#[derive(Debug, Drop, PartialEq, Eq, Hash)]
+#[derive(Debug, PartialEq, Eq, Hash)]
 pub enum GroundPhrase {
     /// The state instance of this number is active.
     In(u32),
@@ -25,4 +25,25 @@ pub enum GroundPhrase {
         relation: Relation,
         constant: i64,
     },
+}
+
+impl Drop for GroundPhrase {
+    fn drop(self) {
+        match self {
+            Self::In(_) => {}
+            Self::Macro(_) => {}
+            Self::Any(_) => {}
+            Self::Every(_) => {}
+            Self::Compare {
+                left: _,
+                relation: _,
+                right: _,
+            } => {}
+            Self::Function {
+                function: _,
+                relation: _,
+                constant: _,
+            } => {}
+        }
+    }
 }

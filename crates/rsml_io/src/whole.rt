@@ -1,6 +1,6 @@
-ghost use Rattle.std.specs.Prelude.{◌≡◌, ◌≢◌, ℕ, ◌<◌, ◌≤◌, List, length, IfOk, IfSome, OnOk, OnErr};
+ghost use Rattle.std.specs.Prelude.{◌≡◌, ◌≢◌, ℕ, ◌+◌, ◌<◌, ◌≤◌, List, length, IfOk, IfSome, OnOk, OnErr};
 ghost use Rattle.rsml_io.specs.Counts.{Rose};
-ghost use Rattle.rsml_io.specs.Reading.{raised};
+ghost use Rattle.rsml_io.specs.Reading.{raised, HasReached};
 ghost use Rattle.rsml_io.specs.Writing.{appended, AppendsProperPrefix};
 ghost use Rattle.rsml_io.specs.declared.read_error.ReadError.TheVariants as error;
 
@@ -14,7 +14,7 @@ use std::alloc::Global;
 const PIECE: usize = 4096;
 
 /// Reads a file whole, if it has at most `limit` bytes. To see that it has more, it may read up to
-/// a piece past the limit.
+/// a piece past the limit, and no further, however the call ends.
 pub fn read_all<F: Files>(
     alloc: Global,
     files: &mut F,
@@ -26,6 +26,7 @@ pub fn read_all<F: Files>(
     ensures within { IfOk result (λ bytes. length bytes.items ≤ limit) }
     ensures reached { IfOk result (λ bytes.
         F.reach files.new name.now ≡ raised (F.reach files.old name.now) (length bytes.items)) }
+    ensures bound { HasReached (F.reach files.old name.now) (limit + 4096) (F.reach files.new name.now) }
 
     ensures fault { result ≡ Err error.ReadFault →
         Rose (F.faults files.old name.now) (F.faults files.new name.now) }

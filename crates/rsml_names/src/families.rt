@@ -13,11 +13,20 @@ use std::alloc::Global;
 use std::marker::Model;
 
 /// The children of one state with their names, and the number of each child's own family.
-#[derive(Drop)]
 struct Family<'a> {
     children: &'a [StateDecl],
     names: NameList<'a>,
     below: Vec<usize>,
+}
+
+impl Drop for Family<'_> {
+    fn drop(self) {
+        let Self {
+            children: _,
+            names: _,
+            below: _,
+        } = self;
+    }
 }
 
 impl<'a> Model for Family<'a> {

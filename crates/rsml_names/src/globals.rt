@@ -46,10 +46,15 @@ impl<'a> Known<'a> {
 }
 
 /// All global names in the order of their declaration, and what each is.
-#[derive(Drop)]
 pub struct Globals<'a> {
     names: NameList<'a>,
     known: Vec<Known<'a>>,
+}
+
+impl Drop for Globals<'_> {
+    fn drop(self) {
+        let Self { names: _, known: _ } = self;
+    }
 }
 
 impl<'a> Model for Globals<'a> {

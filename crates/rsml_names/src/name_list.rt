@@ -7,10 +7,15 @@ use std::alloc::Global;
 use std::marker::Model;
 
 /// Names in the order in which they were put in, with the first place of each.
-#[derive(Drop)]
 pub struct NameList<'a> {
     all: Vec<&'a [u8]>,
     first: IndexMap<&'a [u8], usize>,
+}
+
+impl Drop for NameList<'_> {
+    fn drop(self) {
+        let Self { all: _, first: _ } = self;
+    }
 }
 
 impl<'a> Model for NameList<'a> {

@@ -13,10 +13,18 @@ use std::alloc::Global;
 use std::marker::Model;
 
 /// The variables of quantifiers in order, each with the place of the declaration that it stands in.
-#[derive(Drop)]
 pub struct Variables<'a> {
     names: NameList<'a>,
     places: Vec<usize>,
+}
+
+impl Drop for Variables<'_> {
+    fn drop(self) {
+        let Self {
+            names: _,
+            places: _,
+        } = self;
+    }
 }
 
 impl<'a> Model for Variables<'a> {

@@ -217,12 +217,23 @@ impl Mark {
     }
 }
 
-#[derive(Debug, Drop)]
+#[derive(Debug)]
 pub enum Token {
     Word(Word),
     Name(Text),
     Number(u32),
     Mark(Mark),
+}
+
+impl Drop for Token {
+    fn drop(self) {
+        match self {
+            Self::Word(_) => {}
+            Self::Name(_) => {}
+            Self::Number(_) => {}
+            Self::Mark(_) => {}
+        }
+    }
 }
 
 /// A token, and the byte offset in the text at which it begins.

@@ -15,8 +15,17 @@ pub struct Path {
 
 /// What one situation is: for each component the place of its active child, counted from 0, and for each cell its
 /// number, previous cells among them. Both stand in the order of instances.
-#[derive(Debug, Drop)]
+#[derive(Debug)]
 pub struct World {
     pub choices: List<u8>,
     pub cells: List<i64>,
+}
+
+impl Drop for World {
+    fn drop(self) {
+        let Self {
+            choices: _,
+            cells: _,
+        } = self;
+    }
 }

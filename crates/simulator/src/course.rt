@@ -34,11 +34,20 @@ use text_writer::Writer;
 
 /// A simulation without the room for what it writes: a machine that takes lines, and the reader that gives them. Only `new` takes
 /// memory.
-#[derive(Drop)]
 pub struct Course<'m, 'a> {
     turns: Turns<'m, 'a>,
     reader: LineReader,
     answered: Option<Upcoming>,
+}
+
+impl Drop for Course<'_, '_> {
+    fn drop(self) {
+        let Self {
+            turns: _,
+            reader: _,
+            answered: _,
+        } = self;
+    }
 }
 
 impl<'m, 'a> Model for Course<'m, 'a> {

@@ -30,10 +30,18 @@ const ROOM: usize = 65536;
 
 /// A machine that simulates a certified specification over one event file. It takes all its memory in `new`. Contracts see what the
 /// simulation is of, and how far it has come.
-#[derive(Drop)]
 pub struct Simulator<'m, 'a> {
     course: Course<'m, 'a>,
     buffer: Buffer,
+}
+
+impl Drop for Simulator<'_, '_> {
+    fn drop(self) {
+        let Self {
+            course: _,
+            buffer: _,
+        } = self;
+    }
 }
 
 impl<'m, 'a> Model for Simulator<'m, 'a> {

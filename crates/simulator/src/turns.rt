@@ -27,13 +27,24 @@ use text_writer::Writer;
 
 /// A machine that takes the lines of an event file one after another. Only `new` takes memory. Contracts see the specification, the
 /// world, the present events, how many events came, and the last round.
-#[derive(Drop)]
 pub struct Turns<'m, 'a> {
     machine: &'m Machine<'a>,
     running: Running<'m, 'a>,
     forms: LineForms<'a>,
     values: Vec<i64>,
     events: u64,
+}
+
+impl Drop for Turns<'_, '_> {
+    fn drop(self) {
+        let Self {
+            machine: _,
+            running: _,
+            forms: _,
+            values: _,
+            events: _,
+        } = self;
+    }
 }
 
 impl<'m, 'a> Model for Turns<'m, 'a> {

@@ -8,10 +8,18 @@ use rsml_syntax::{Decl, NoMemory};
 use std::alloc::Global;
 
 /// The instances of inputs, and of those that stand after `previous`.
-#[derive(Drop)]
 pub struct InputNames<'a> {
     pub inputs: Instances<'a>,
     pub previous: Instances<'a>,
+}
+
+impl Drop for InputNames<'_> {
+    fn drop(self) {
+        let Self {
+            inputs: _,
+            previous: _,
+        } = self;
+    }
 }
 
 impl<'a> InputNames<'a> {

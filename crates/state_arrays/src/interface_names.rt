@@ -9,11 +9,20 @@ use rsml_syntax::{Decl, NoMemory};
 use std::alloc::Global;
 
 /// The instances of macros and functions, in one list, of receives, and of sends.
-#[derive(Drop)]
 pub struct InterfaceNames<'a> {
     pub definitions: Instances<'a>,
     pub receives: Instances<'a>,
     pub sends: Instances<'a>,
+}
+
+impl Drop for InterfaceNames<'_> {
+    fn drop(self) {
+        let Self {
+            definitions: _,
+            receives: _,
+            sends: _,
+        } = self;
+    }
 }
 
 impl<'a> InterfaceNames<'a> {

@@ -15,13 +15,24 @@ use std::alloc::Global;
 use std::marker::Model;
 
 /// The numbers of the instances of a specification.
-#[derive(Drop)]
 pub struct Names<'a> {
     spec: &'a Spec,
     events: Instances<'a>,
     cells: InputNames<'a>,
     interfaces: InterfaceNames<'a>,
     paths: Paths<'a>,
+}
+
+impl Drop for Names<'_> {
+    fn drop(self) {
+        let Self {
+            spec: _,
+            events: _,
+            cells: _,
+            interfaces: _,
+            paths: _,
+        } = self;
+    }
 }
 
 impl<'a> Model for Names<'a> {

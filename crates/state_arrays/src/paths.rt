@@ -15,10 +15,18 @@ use std::alloc::Global;
 use std::marker::Model;
 
 /// The state instances of a specification, found by their paths.
-#[derive(Drop)]
 pub struct Paths<'a> {
     nodes: Nodes<'a>,
     numbers: IndexMap<Child<'a>, u32>,
+}
+
+impl Drop for Paths<'_> {
+    fn drop(self) {
+        let Self {
+            nodes: _,
+            numbers: _,
+        } = self;
+    }
 }
 
 impl<'a> Model for Paths<'a> {

@@ -23,12 +23,22 @@ use std::marker::Model;
 
 /// The tree of state instances of a checked specification. States and components are named by
 /// their places in the order of the text, counted from 0. Only `build` takes memory.
-#[derive(Drop)]
 pub struct Tree<'a> {
     spec: &'a Spec,
     nodes: Nodes<'a>,
     ends: Vec<u32>,
     families: Vec<Family>,
+}
+
+impl Drop for Tree<'_> {
+    fn drop(self) {
+        let Self {
+            spec: _,
+            nodes: _,
+            ends: _,
+            families: _,
+        } = self;
+    }
 }
 
 impl<'a> Model for Tree<'a> {

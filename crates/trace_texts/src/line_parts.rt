@@ -9,12 +9,22 @@ use rsml_syntax::NoMemory;
 use std::alloc::Global;
 
 /// The texts of each part of lines, for the instances of a machine.
-#[derive(Drop)]
 pub struct LineParts {
     pub receives: PartTexts,
     pub events: PartTexts,
     pub firsts: PartTexts,
     pub sends: PartTexts,
+}
+
+impl Drop for LineParts {
+    fn drop(self) {
+        let Self {
+            receives: _,
+            events: _,
+            firsts: _,
+            sends: _,
+        } = self;
+    }
 }
 
 impl LineParts {

@@ -22,13 +22,24 @@ use std::marker::Model;
 use text_writer::{Writer, put_line_end, put_number};
 
 /// The texts of the traces of a machine. Only `new` takes memory. Contracts see the machine.
-#[derive(Drop)]
 pub struct Traces<'m, 'a> {
     machine: &'m Machine<'a>,
     texts: Texts<'a>,
     sent: SentTexts<'a>,
     lines: TakeLines,
     parts: LineParts,
+}
+
+impl Drop for Traces<'_, '_> {
+    fn drop(self) {
+        let Self {
+            machine: _,
+            texts: _,
+            sent: _,
+            lines: _,
+            parts: _,
+        } = self;
+    }
 }
 
 impl<'m, 'a> Model for Traces<'m, 'a> {

@@ -15,10 +15,15 @@ use std::alloc::Global;
 use std::marker::Model;
 
 /// The worlds of a specification. Contracts see them as the specification.
-#[derive(Drop)]
 pub struct Worlds<'a> {
     tree: Tree<'a>,
     ends: Vec<CellEnds<'a>>,
+}
+
+impl Drop for Worlds<'_> {
+    fn drop(self) {
+        let Self { tree: _, ends: _ } = self;
+    }
 }
 
 impl<'a> Model for Worlds<'a> {

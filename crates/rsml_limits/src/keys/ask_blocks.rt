@@ -28,11 +28,20 @@ pub struct ListName<'a> {
 }
 
 /// The blocks of asks, over lists of numbers; the list of a function is made once for each name.
-#[derive(Drop)]
 pub struct AskBlocks<'a, 'b> {
     globals: &'b Globals<'a>,
     lists: SumLists<'a>,
     known: IndexMap<ListName<'a>, u32>,
+}
+
+impl Drop for AskBlocks<'_, '_> {
+    fn drop(self) {
+        let Self {
+            globals: _,
+            lists: _,
+            known: _,
+        } = self;
+    }
 }
 
 impl<'a, 'b> Model for AskBlocks<'a, 'b> {

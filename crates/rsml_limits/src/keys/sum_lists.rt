@@ -16,10 +16,15 @@ use std::alloc::Global;
 use std::marker::Model;
 
 /// Lists of the numbers of sums, each once.
-#[derive(Drop)]
 pub struct SumLists<'a> {
     sums: Sums<'a>,
     lists: IndexSet<Vec<u32>>,
+}
+
+impl Drop for SumLists<'_> {
+    fn drop(self) {
+        let Self { sums: _, lists: _ } = self;
+    }
 }
 
 impl<'a> Model for SumLists<'a> {

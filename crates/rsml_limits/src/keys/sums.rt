@@ -15,10 +15,16 @@ use std::alloc::Global;
 use std::marker::Model;
 
 /// A sum, with the relation of the keys that it is a side of.
-#[derive(PartialEq, Eq, Hash, Drop)]
+#[derive(PartialEq, Eq, Hash)]
 pub struct Ordered<'a> {
     pub order: Order,
     pub terms: Vec<GroundTerm<'a>>,
+}
+
+impl Drop for Ordered<'_> {
+    fn drop(self) {
+        let Self { order: _, terms: _ } = self;
+    }
 }
 
 /// Sums that have numbers: the places where they stand.

@@ -15,11 +15,20 @@ use std::alloc::Global;
 use std::marker::Model;
 
 /// Cells with numbers. Cells that have the same numbers share a list of them.
-#[derive(Drop)]
 pub struct Table<'a> {
     cells: IndexSet<InputCell<'a>>,
     lists: Vec<Vec<i128>>,
     blocks: Vec<Block>,
+}
+
+impl Drop for Table<'_> {
+    fn drop(self) {
+        let Self {
+            cells: _,
+            lists: _,
+            blocks: _,
+        } = self;
+    }
 }
 
 impl<'a> Model for Table<'a> {

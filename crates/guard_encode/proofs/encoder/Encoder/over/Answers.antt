@@ -25,7 +25,7 @@ invariant_of-result c =
     none_exact c.all_phrases.new.arena c.args.levels (length c.keys.result.now) c.in_ok-exact.exact (ap (λ (ks : List Keyed). length ks) c.keys.ensures.keyed) c.in_ok-exact.ensures in
     let made : Made = record { active = c.in_ok-active.active.items; phrases = c.in_ok-phrases.phrases.items; exact = c.in_ok-exact.exact } in
     are_encoded c.args.machine.now c.args.levels c.all_phrases.new.arena made c.requires c.keys.ensures.law
-    (c.in_ok-phrases.ensures.keeps.same_levels ∙ c.in_ok-active.ensures.keeps.same_levels ∙ c.in_ok-arena.ensures.levels ∙ c.levels-2.ensures ∙ ap (λ (xs : List Slot). length xs) c.layout.ensures.slots)
+    (c.in_ok-phrases.ensures.keeps.same_levels ∙ c.in_ok-active.ensures.keeps.same_levels ∙ c.in_ok-arena.ensures.levels ∙ c.levels.ensures ∙ ap (λ (xs : List Slot). length xs) c.layout.ensures.slots)
     (active_stay c.active_states.new.arena c.all_phrases.new.arena c.args.levels c.in_ok-active.active.items c.in_ok-phrases.ensures.keeps active)
     c.in_ok-phrases.ensures.answer
     none
