@@ -15,15 +15,19 @@ import tempfile
 
 TOP = os.path.dirname(os.path.dirname(os.path.abspath(__file__)))
 
-# A line of the program, and its file, line, column, text and whether it is a note.
+# A line of the program, and its file, line, column, text and kind. Programs older than the word `error: ` leave it out.
 LINES = [
-    ("# cabin.rsml:24:21: `Upp` is not declared", ("cabin.rsml", 24, 21, "`Upp` is not declared", False)),
-    ("# spec/lamp 2.rsml:3:1: no transition is enabled", ("spec/lamp 2.rsml", 3, 1, "no transition is enabled", False)),
-    ("# a.rsml:1:1: note: the event `E` is raised by nothing", ("a.rsml", 1, 1, "the event `E` is raised by nothing", True)),
+    ("# cabin.rsml:24:21: error: `Upp` is not declared", ("cabin.rsml", 24, 21, "`Upp` is not declared", "error")),
+    ("# cabin.rsml:24:21: `Upp` is not declared", ("cabin.rsml", 24, 21, "`Upp` is not declared", "error")),
+    ("# spec/lamp 2.rsml:3:1: error: no transition is enabled", ("spec/lamp 2.rsml", 3, 1, "no transition is enabled", "error")),
+    ("# a.rsml:1:1: note: the event `E` is raised by nothing", ("a.rsml", 1, 1, "the event `E` is raised by nothing", "note")),
+    ("# a.rsml:9:3: Top.A[2] 12 move X -> Y", ("a.rsml", 9, 3, "Top.A[2] 12 move X -> Y", "member")),
+    ("# a.rsml:9:3: Lamp 4 stay On on Tick raises E", ("a.rsml", 9, 3, "Lamp 4 stay On on Tick raises E", "member")),
+    ("# a.rsml:9:3: case 2", ("a.rsml", 9, 3, "case 2", "member")),
+    ("# a.rsml:9:3: case 1 of send Panel on Tick", ("a.rsml", 9, 3, "case 1 of send Panel on Tick", "member")),
 ]
 # Lines that tell no place.
 OTHERS = ["fault S2 Upp", "#     Lever = Upp | T;", "#             ^^^", "#   did you mean `Up`?", "specification Cabin"]
-
 
 def text_of(path):
     with open(os.path.join(TOP, path), encoding="utf-8") as file:
@@ -58,7 +62,8 @@ def matched(line):
         hit = re.match(pattern["regexp"], line)
         if hit:
             places = [hit.group(pattern[key]) for key in ("file", "line", "column", "message")]
-            found.append((places[0], int(places[1]), int(places[2]), places[3], matcher["severity"] == "info"))
+            kind = "note" if matcher["severity"] == "info" else "error"
+            found.append((places[0], int(places[1]), int(places[2]), places[3], kind))
     return found
 
 
@@ -85,7 +90,8 @@ def listed_by_vim(lines):
             return None
         with open(answer, encoding="utf-8") as file:
             places = json.load(file)
-    return [(name, line, column, text, kind == "n") for name, line, column, text, kind in places]
+    kinds = {"": "error", "e": "error", "n": "note", "I": "member"}
+    return [(name, line, column, text, kinds.get(kind, kind)) for name, line, column, text, kind in places]
 
 
 def main():
@@ -99,7 +105,7 @@ def main():
     same("words of VS Code", vscode_words(), words)
     same("words of Vim", vim_words(), words)
     for line, place in LINES:
-        same(f"VS Code on {line!r}", matched(line), [place])
+        same(f"VS Code on {line!r}", matched(line), [] if place[4] == "member" else [place])
     for line in OTHERS:
         same(f"VS Code on {line!r}", matched(line), [])
     if shutil.which("vim"):
