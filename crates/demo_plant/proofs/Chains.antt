@@ -5,7 +5,7 @@ use Rattle.rsml_meaning.specs.Words.{Instance, same_instance, has, Each}
 use Rattle.rsml_meaning.specs.Transitions.{transitions, is_on}
 use Rattle.rsml_meaning.specs.Chains.{is_external, leads, linked, is_chain, begins_with, ends_with, IsTwiceIn, Loops, Ends, Clash}
 use Rattle.rsml_meaning.proofs.Same.{instance_same, instance_itself}
-use Rattle.rsml_scopes.proofs.Lists.{any_some, each_one}
+use Rattle.rsml_meaning.proofs.Lists.{any_some, each_one}
 use Rattle.demo_plant.specs.Plant.{plant}
 use Rattle.demo_plant.proofs.Transitions.{each_transition}
 

@@ -17,7 +17,7 @@ use Rattle.rsml_meaning.specs.Cells.{input_type, is_of}
 use Rattle.rsml_meaning.specs.Interfaces.{new_receive}
 use Rattle.rsml_meaning.specs.EventLines.{Bytes, LineRule, Outcome, all_some, up_to_size, read_fields, E3, E6, E7, is_blank, is_empty, is_skipped, words, digits_number, signed_number, before_close, Message, breaks, tells, read_words, read_line, E1}
 use Rattle.rsml_meaning.specs.EventFiles.{rule_broken}
-use Rattle.rsml_scopes.proofs.Lists.{list_all_one, all_append}
+use Rattle.rsml_meaning.proofs.Lists.{list_all_one, all_append}
 use Rattle.demo_plant.specs.Writing.{plain, at_this}
 use Rattle.demo_plant.specs.Plant.{plant}
 use Rattle.demo_plant.specs.Events.{load}

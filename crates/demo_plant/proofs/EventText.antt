@@ -6,7 +6,7 @@ use Rattle.rsml_syntax.specs.rules.Globals.{up_to}
 use Rattle.rsml_meaning.specs.Words.{Each}
 use Rattle.rsml_meaning.specs.EventLines.{Bytes}
 use Rattle.rsml_meaning.specs.EventFiles.{Line, lines, lines_of, placed_from, rule_broken}
-use Rattle.rsml_scopes.proofs.Lists.{each_map}
+use Rattle.rsml_meaning.proofs.Lists.{each_map}
 use Rattle.demo_plant.specs.Plant.{plant}
 use Rattle.demo_plant.specs.Events.{event_line, event_lines, event_text}
 use Rattle.demo_plant.specs.Laws.{DemoEventsAreWellFormed}

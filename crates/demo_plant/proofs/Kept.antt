@@ -7,7 +7,7 @@ use Rattle.rsml_syntax.specs.declared.syntax.Spec.{Spec}
 use Rattle.rsml_syntax.specs.rules.Globals.{up_to}
 use Rattle.rsml_syntax.specs.rules.Rules.{broken_rule}
 use Rattle.rsml_syntax.specs.limits.Limits.{over, Keeps}
-use Rattle.rsml_scopes.proofs.Lists.{list_all_one}
+use Rattle.rsml_meaning.proofs.Lists.{list_all_one}
 use Rattle.demo_plant.specs.Plant.{plant}
 use Rattle.demo_plant.proofs.Lists.{up_to_has}
 

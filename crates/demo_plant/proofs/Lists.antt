@@ -5,7 +5,7 @@ use Rattle.std.proofs.lemmas.Grind.{flat_map-append}
 use Rattle.std.proofs.lemmas.List.Elements.{filter-append}
 use Rattle.rsml_syntax.specs.rules.Globals.{up_to}
 use Rattle.rsml_meaning.specs.Words.{Each, IsOne}
-use Rattle.rsml_scopes.proofs.Lists.{one_of_append, one_front, one_back}
+use Rattle.rsml_meaning.proofs.Lists.{one_of_append, one_front, one_back}
 
 pub each_passing : {A B : Type 0} (P : B → Type 0) (f : A → B) (p : A → Bool) (xs : List A) → ((x : A) → p x ≡ true → P (f x))
     → Each P (map f (filter p xs))

@@ -25,7 +25,7 @@ use Rattle.rsml_syntax.specs.text.Words.{spelling}
 use Rattle.rsml_syntax.specs.text.Marks as mark
 use Rattle.rsml_syntax.proofs.PrintLemmas.{layout_reads}
 use Rattle.rsml_syntax.proofs.WordLemmas.{letters_name}
-use Rattle.rsml_scopes.proofs.Lists.{list_all_one}
+use Rattle.rsml_meaning.proofs.Lists.{list_all_one}
 use Rattle.demo_plant.specs.Plant.{plant}
 use Rattle.demo_plant.specs.Text.{text}
 use Rattle.demo_plant.proofs.Lists.{up_to_has}

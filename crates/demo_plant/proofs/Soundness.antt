@@ -12,7 +12,7 @@ use Rattle.rsml_meaning.specs.Transitions.{transitions, is_on, is_from}
 use Rattle.rsml_meaning.specs.Groups.{state, transition, groups, state_groups, enabled, reacts_inside, Sound}
 use Rattle.rsml_meaning.proofs.Prefixes.{same_path_is}
 use Rattle.rsml_meaning.proofs.Same.{instance_same}
-use Rattle.rsml_scopes.proofs.Lists.{any_some, each_append, each_flat_map, each_one}
+use Rattle.rsml_meaning.proofs.Lists.{any_some, each_append, each_flat_map, each_one}
 use Rattle.demo_plant.specs.Plant.{plant, is_deep, is_full, is_high}
 use Rattle.demo_plant.proofs.Lists.{each_passing, one_of_two}
 use Rattle.demo_plant.proofs.Transitions.{go, off, on, child_at, starting, resting, stopping, running, each_transition, line_is, line_of_off, line_of_on}

@@ -7,7 +7,7 @@ use Rattle.rsml_meaning.specs.Words.{Instance, at, Path, is_prefix, Each, IsOne}
 use Rattle.rsml_meaning.specs.Instances.{Component, new_component, subtree, globals_of}
 use Rattle.rsml_meaning.specs.Transitions.{TransitionInstance, new_transition, transitions_of, transitions, is_on}
 use Rattle.rsml_meaning.proofs.Same.{nat_itself}
-use Rattle.rsml_scopes.proofs.Lists.{each_flat_map}
+use Rattle.rsml_meaning.proofs.Lists.{each_flat_map}
 use Rattle.demo_plant.specs.Plant.{plant, unit, start, rest, stop, run}
 use Rattle.demo_plant.proofs.Lists.{only_one_kept}
 

@@ -3,7 +3,7 @@ use Rattle.std.proofs.Common.{◌≡◌, ℕ, ◌+◌, ◌≤◌, List, [], ◌�
 use Rattle.std.specs.Prelude.{codes, decimal, zip, is_some}
 use Rattle.std.proofs.lemmas.List.{nil_from_length}
 use Rattle.std.specs.declared.alloc.Global.{Global}
-use Rattle.one_run.specs.Laws.{LastLineIsVerdict, LinesHaveOneRun}
+use Rattle.rsml_meaning.specs.RunLaws.{LastLineIsVerdict, LinesHaveOneRun}
 use Rattle.rsml_syntax.specs.declared.syntax.Spec.{Spec}
 use Rattle.rsml_meaning.specs.Words.{Instance}
 use Rattle.rsml_meaning.specs.EventFiles.{lines_of}
@@ -13,7 +13,7 @@ use Rattle.rsml_meaning.specs.Laws.{ReportIsOne}
 use Rattle.rsml_meaning.specs.Report.{Answers, AreRight, ClashFound, report_text, refusals, last_line, chain_line, loop_line, clash_line, finding, is_finding, looping, externals}
 use Rattle.rsml_meaning.specs.Runs.{Reaction}
 use Rattle.rsml_meaning.specs.Texts.{text_line}
-use Rattle.rsml_scopes.specs.Laws.{RulesGiveScopes}
+use Rattle.rsml_meaning.specs.ScopeLaws.{RulesGiveScopes}
 use Rattle.rsml_base.specs.declared.no_memory.NoMemory.{NoMemory}
 use Rattle.demo_plant.specs.Events.{event_text}
 use Rattle.demo_plant.specs.Laws.{IsDemo}

@@ -10,7 +10,7 @@ use answering::{Status, finish};
 use demo_plant::{demo_events_are_well_formed, demos_are_certified, generate, generate_events};
 use elaborate::{Machine, elaborate};
 use judging::{Judgement, judge};
-use one_run::last_lines_tell_the_verdict;
+use rsml_meaning::last_lines_tell_the_verdict;
 use rsml_base::{put, put_number};
 use rsml_io::Sink;
 use rsml_lexer::{at_most_one_first_fault, at_most_one_token_list, never_both};

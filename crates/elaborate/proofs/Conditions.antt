@@ -11,7 +11,7 @@ use Rattle.rsml_meaning.specs.Worlds.{IsWorld}
 use Rattle.rsml_meaning.specs.Truth.{view}
 use Rattle.rsml_meaning.specs.Transitions.{TransitionInstance, transitions, is_on, is_from}
 use Rattle.rsml_meaning.specs.Groups.{Group, state, send, function, members, meets, reacts_inside, enabled_count, Sound}
-use Rattle.rsml_scopes.proofs.Lists.{both, any_one, any_some, same_truth}
+use Rattle.rsml_meaning.proofs.Lists.{both, any_one, any_some, same_truth}
 use Rattle.state_arrays.specs.Places.{path_at}
 use Rattle.state_tree.specs.Numbers.{path_of}
 use Rattle.rsml_ground.specs.Truths.{is_active}

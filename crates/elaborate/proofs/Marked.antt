@@ -12,7 +12,7 @@ use Rattle.rsml_meaning.specs.Instances.{events}
 use Rattle.rsml_meaning.specs.Interfaces.{ReceiveInstance, receives}
 use Rattle.rsml_meaning.specs.Chains.{is_external}
 use Rattle.rsml_meaning.proofs.Same.{instance_same, instance_itself}
-use Rattle.rsml_scopes.proofs.Lists.{is_false}
+use Rattle.rsml_meaning.proofs.Lists.{is_false}
 use Rattle.phrase_builder.proofs.Lists.{get_below, there_is}
 use Rattle.ground_members.proofs.Numbers.{place_is}
 use Rattle.ground_groups.proofs.Instances.{one_event}

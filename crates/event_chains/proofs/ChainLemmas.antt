@@ -10,7 +10,7 @@ use Rattle.rsml_meaning.specs.Instances.{events}
 use Rattle.rsml_meaning.specs.Chains.{is_external, leads, linked, is_chain, begins_with, ends_with, IsChainFrom, IsLength, Ends, Loops, Clash}
 use Rattle.rsml_meaning.specs.Report.{IsLengthAnswer}
 use Rattle.rsml_meaning.proofs.Same.{instance_same, instance_itself}
-use Rattle.rsml_scopes.proofs.Lists.{both}
+use Rattle.rsml_meaning.proofs.Lists.{both}
 use Rattle.state_tree.proofs.Lists.{get_within, within_get, as_long}
 use Rattle.ground_members.specs.Members.{IsEvent}
 use Rattle.event_graph.specs.Graphs.{Graph, starts}

@@ -11,7 +11,7 @@ use Rattle.rsml_meaning.specs.Instances.{events}
 use Rattle.rsml_meaning.specs.Chains.{is_external}
 use Rattle.rsml_meaning.specs.Report.{ClashFound, IsFirstClash}
 use Rattle.rsml_meaning.proofs.Same.{instance_itself}
-use Rattle.rsml_scopes.proofs.Lists.{any_one}
+use Rattle.rsml_meaning.proofs.Lists.{any_one}
 use Rattle.state_tree.proofs.Lists.{one_at, within_get}
 use Rattle.ground_members.specs.Members.{IsEvent}
 use Rattle.event_graph.specs.declared.clash.Clash.{Clash as Numbers}

@@ -14,7 +14,7 @@ use Rattle.rsml_meaning.specs.Chains.{is_external, leads, linked, is_chain, begi
 use Rattle.rsml_meaning.specs.Report.{ClashFound, externals, IsLengthAnswer, IsClashAnswer}
 use Rattle.rsml_meaning.proofs.Same.{instance_same, instance_itself}
 use Rattle.rsml_meaning.proofs.Ways.{length_or_endless}
-use Rattle.rsml_scopes.proofs.Lists.{each_one, any_one, one_filter}
+use Rattle.rsml_meaning.proofs.Lists.{each_one, any_one, one_filter}
 use Rattle.state_tree.proofs.Lists.{zip_push}
 use Rattle.ground_members.specs.Members.{IsEvent}
 use Rattle.event_graph.specs.declared.clash.Clash.{Clash as Numbers}

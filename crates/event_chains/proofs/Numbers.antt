@@ -13,9 +13,9 @@ use Rattle.rsml_meaning.specs.Transitions.{transitions, is_on}
 use Rattle.rsml_meaning.specs.Chains.{is_external, leads}
 use Rattle.rsml_meaning.specs.Report.{event_place}
 use Rattle.rsml_meaning.proofs.Same.{instance_same, instance_itself}
-use Rattle.rsml_scopes.specs.Scoped as scoped
-use Rattle.rsml_scopes.proofs.Lists.{same_truth, each_one, any_some}
-use Rattle.rsml_scopes.proofs.rules.Scoped.{rules_give_scopes}
+use Rattle.rsml_meaning.specs.Scoped as scoped
+use Rattle.rsml_meaning.proofs.Lists.{same_truth, each_one, any_some}
+use Rattle.rsml_meaning.proofs.rules.Scoped.{rules_give_scopes}
 use Rattle.state_tree.proofs.Lists.{place_of_one}
 use Rattle.ground_members.specs.Members.{IsEvent, IsSend}
 use Rattle.ground_members.proofs.Numbers.{place_is}

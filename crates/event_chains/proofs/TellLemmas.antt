@@ -8,7 +8,7 @@ use Rattle.std.specs.Cmp.{nat_eq_equiv, first_so, second_so}
 use Rattle.rsml_syntax.specs.declared.syntax.Spec.{Spec}
 use Rattle.rsml_meaning.specs.Words.{Each, IsOne, on_one_line}
 use Rattle.rsml_meaning.specs.Instances.{states}
-use Rattle.rsml_scopes.proofs.Lists.{both, or_left, or_right, or_cases, same_truth, each_one, any_one, any_some}
+use Rattle.rsml_meaning.proofs.Lists.{both, or_left, or_right, or_cases, same_truth, each_one, any_one, any_some}
 use Rattle.state_tree.specs.Numbers.{path_of}
 use Rattle.state_tree.proofs.Lists.{one_at}
 use Rattle.event_graph.specs.declared.events.Events.{Events}

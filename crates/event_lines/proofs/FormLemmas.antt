@@ -18,7 +18,7 @@ use Rattle.rsml_meaning.specs.Cells.{InputType}
 use Rattle.rsml_meaning.specs.Interfaces.{ReceiveInstance, new_receive, receives_of, receives}
 use Rattle.rsml_meaning.specs.EventLines as lines
 use Rattle.rsml_names.proofs.Gathering.{split}
-use Rattle.rsml_scopes.proofs.Globals.{meaning_is}
+use Rattle.rsml_meaning.proofs.Globals.{meaning_is}
 use Rattle.event_lines.specs.declared.form.Form.{Form}
 use Rattle.event_lines.specs.helpers.Declared.{declared_by, types_of}
 use Rattle.event_lines.specs.helpers.Forms.{listed, index_of, Written, written, declared, declared_from, after, IsWithin, AreForms, IsFormOf}

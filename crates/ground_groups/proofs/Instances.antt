@@ -15,7 +15,7 @@ use Rattle.rsml_syntax.specs.limits.Checked.{IsChecked}
 use Rattle.rsml_meaning.specs.Words.{Instance, IsOne, at}
 use Rattle.rsml_meaning.specs.Instances.{globals_of, instances, events_of, events}
 use Rattle.rsml_meaning.specs.Interfaces.{sends_of, sends}
-use Rattle.rsml_scopes.proofs.rules.Sizes.{of_up_to}
+use Rattle.rsml_meaning.proofs.rules.Sizes.{of_up_to}
 use Rattle.rsml_meaning.proofs.Same.{name_itself}
 use Rattle.state_arrays.proofs.Distinct.{names_in, name_new}
 use Rattle.ground_groups.proofs.Tables.{one_of_append}

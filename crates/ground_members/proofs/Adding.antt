@@ -13,7 +13,7 @@ use Rattle.rsml_syntax.specs.rules.Globals.{Globals}
 use Rattle.rsml_meaning.specs.Words.{Path, numbered_from, numbered}
 use Rattle.rsml_meaning.specs.Instances.{State, Component, new_component, component_of, row_names, states, components}
 use Rattle.rsml_meaning.specs.Transitions.{TransitionInstance, innermost, transitions_of}
-use Rattle.rsml_scopes.proofs.Lists.{each_append}
+use Rattle.rsml_meaning.proofs.Lists.{each_append}
 use Rattle.state_tree.specs.nodes.Numbers.{IsPlace, components_of, component_at}
 use Rattle.state_tree.proofs.Bodies.{body_component}
 use Rattle.state_arrays.specs.Places.{path_at}

@@ -24,7 +24,7 @@ use Rattle.rsml_meaning.specs.Instances.{State, Component, globals_of, row_names
 use Rattle.rsml_meaning.specs.Instances as made
 use Rattle.rsml_meaning.specs.Transitions.{TransitionInstance, sources, target_path, new_transition, transitions_of, transitions}
 use Rattle.rsml_meaning.proofs.Same.{name_same}
-use Rattle.rsml_scopes.proofs.Lists.{each_append, each_flat_map, each_map, each_one, each_numbered_flat, one_front, one_back, one_flat_map}
+use Rattle.rsml_meaning.proofs.Lists.{each_append, each_flat_map, each_map, each_one, each_numbered_flat, one_front, one_back, one_flat_map}
 use Rattle.state_arrays.specs.Trees.{HasPath}
 use Rattle.ground_members.specs.Scoped.{TargetIsScoped}
 

@@ -12,16 +12,16 @@ use Rattle.rsml_meaning.specs.Truth.{within}
 use Rattle.rsml_meaning.specs.Transitions.{TransitionInstance, transitions}
 use Rattle.rsml_meaning.specs.Interfaces.{SendCaseInstance, sends_of, sends, new_send_case, send_cases_of, send_cases, definitions}
 use Rattle.rsml_meaning.proofs.Same.{instance_itself}
-use Rattle.rsml_scopes.specs.Scoped.{IsState, IsEvent}
-use Rattle.rsml_scopes.proofs.Lists.{each_ones, each_one, each_more, one_map, one_of_map, one_flat_map}
-use Rattle.rsml_scopes.proofs.rules.Scoped.{rules_give_scopes}
+use Rattle.rsml_meaning.specs.Scoped.{IsState, IsEvent}
+use Rattle.rsml_meaning.proofs.Lists.{each_ones, each_one, each_more, one_map, one_of_map, one_flat_map}
+use Rattle.rsml_meaning.proofs.rules.Scoped.{rules_give_scopes}
 use Rattle.state_arrays.specs.Trees.{HasPath}
 use Rattle.rsml_ground.specs.Grounded.{IsShort}
-use Rattle.phrase_scopes.specs.Scoped.{GuardIsScoped, SendCaseIsScoped}
-use Rattle.phrase_scopes.proofs.Declared.{decl_few}
-use Rattle.phrase_scopes.proofs.Found.{first_is, made_one}
-use Rattle.phrase_scopes.proofs.Phrases.{rules_scope_phrases}
-use Rattle.phrase_scopes.proofs.Reading.{one_few}
+use Rattle.rsml_ground.specs.Scoped.{GuardIsScoped, SendCaseIsScoped}
+use Rattle.rsml_ground.proofs.Declared.{decl_few}
+use Rattle.rsml_ground.proofs.Found.{first_is, made_one}
+use Rattle.rsml_ground.proofs.PhraseScopes.{rules_scope_phrases}
+use Rattle.rsml_ground.proofs.Reading.{one_few}
 use Rattle.ground_members.specs.Scoped.{EventIsScoped, HasSend, TargetIsScoped, TransitionIsScoped, CaseIsScoped}
 use Rattle.ground_members.proofs.Reached.{target_scoped, has_path}
 

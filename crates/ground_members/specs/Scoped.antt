@@ -9,7 +9,7 @@ use Rattle.rsml_meaning.specs.Transitions.{TransitionInstance, target_path}
 use Rattle.rsml_meaning.specs.Interfaces.{SendCaseInstance, sends, definitions}
 use Rattle.state_arrays.specs.Places.{path_at}
 use Rattle.state_arrays.specs.Trees.{HasPath}
-use Rattle.phrase_scopes.specs.Scoped.{GuardIsScoped, SendCaseIsScoped}
+use Rattle.rsml_ground.specs.Scoped.{GuardIsScoped, SendCaseIsScoped}
 
 -- An event has a number, and an index that an array can have.
 pub record EventIsScoped (s : Spec) (e : Instance) : Type 0 where

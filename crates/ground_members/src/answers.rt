@@ -3,7 +3,7 @@ ghost use Rattle.std.specs.List.{AllZip};
 ghost use Rattle.rsml_meaning.specs.Words.{Each};
 ghost use Rattle.rsml_meaning.specs.Interfaces.{definitions};
 ghost use Rattle.rsml_meaning.specs.Truth.{within};
-ghost use Rattle.phrase_scopes.specs.Scoped.{ValueIsScoped, AnswerIsScoped};
+ghost use Rattle.rsml_ground.specs.Scoped.{ValueIsScoped, AnswerIsScoped};
 ghost use Rattle.ground_members.specs.Members.{ValueIs, AnswerIs};
 
 use crate::send_cases::{GroundAnswer, GroundValue};

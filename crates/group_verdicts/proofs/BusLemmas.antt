@@ -19,7 +19,7 @@ use Rattle.rsml_meaning.specs.Words.{Each, IsOne, Path, at, child_path}
 use Rattle.rsml_meaning.specs.Instances.{State, Component, globals_of, new_component, new_state, row_inside, row_names, states}
 use Rattle.rsml_meaning.specs.Instances as made
 use Rattle.rsml_meaning.specs.Transitions.{sources}
-use Rattle.rsml_scopes.proofs.rules.Components.{AreMembers, members_are}
+use Rattle.rsml_meaning.proofs.rules.Components.{AreMembers, members_are}
 use Rattle.state_tree.proofs.Lists.{each_flat_map}
 use Rattle.state_tree.proofs.Spread.{made_by, not_earlier, not_last}
 use Rattle.ground_groups.proofs.Rising.{each_one, each_so}

@@ -7,13 +7,13 @@ use Rattle.rsml_syntax.specs.rules.Globals.{Globals, globals, many, size_of}
 use Rattle.rsml_meaning.specs.Words.{Instance, Each}
 use Rattle.rsml_meaning.specs.Instances.{globals_of}
 use Rattle.rsml_meaning.specs.Interfaces.{receives_of, receives}
-use Rattle.rsml_scopes.proofs.Lists.{each_ones}
+use Rattle.rsml_meaning.proofs.Lists.{each_ones}
 use Rattle.rsml_ground.specs.Grounded.{IsShort}
-use Rattle.phrase_scopes.specs.Scoped.{ReceiveIsScoped}
+use Rattle.rsml_ground.specs.Scoped.{ReceiveIsScoped}
 use Rattle.state_arrays.proofs.Distinct.{sized_here}
-use Rattle.phrase_scopes.proofs.Declared.{placed}
-use Rattle.phrase_scopes.proofs.Receives.{receives_scoped}
-use Rattle.phrase_scopes.proofs.Values.{few_values}
+use Rattle.rsml_ground.proofs.Declared.{placed}
+use Rattle.rsml_ground.proofs.Receives.{receives_scoped}
+use Rattle.rsml_ground.proofs.Values.{few_values}
 use Rattle.interfaces.specs.declared.field.Field.{Field}
 use Rattle.interfaces.specs.declared.receive.Receive.{Receive}
 use Rattle.interfaces.specs.Kept.{AreKept, AreInterfaces}

@@ -20,10 +20,10 @@ use Rattle.rsml_meaning.specs.Words.{Instance, Each, IsOne, same_instance, has}
 use Rattle.rsml_meaning.specs.Instances.{globals_of}
 use Rattle.rsml_meaning.specs.Interfaces.{ReceiveInstance, new_receive, receives_of, receives}
 use Rattle.rsml_meaning.specs.Truth.{within, instance}
-use Rattle.rsml_scopes.proofs.Lists.{each_flat_map, each_map}
-use Rattle.rsml_scopes.proofs.rules.Declared.{contents_clean}
-use Rattle.rsml_scopes.proofs.rules.Names.{is_in_any}
-use Rattle.phrase_scopes.proofs.Declared.{placed}
+use Rattle.rsml_meaning.proofs.Lists.{each_flat_map, each_map}
+use Rattle.rsml_meaning.proofs.rules.Declared.{contents_clean}
+use Rattle.rsml_meaning.proofs.rules.Names.{is_in_any}
+use Rattle.rsml_ground.proofs.Declared.{placed}
 use Rattle.interfaces.proofs.LatchLemmas.{AreFresh}
 
 abbrev name_of : Mention → Name

@@ -10,9 +10,9 @@ use Rattle.rsml_syntax.specs.declared.syntax.Mention.{Mention}
 use Rattle.rsml_syntax.specs.text.Names.{Name}
 use Rattle.rsml_syntax.specs.rules.Globals.{Globals, up_to}
 use Rattle.rsml_meaning.specs.Words.{Instance, Each, place_in}
-use Rattle.rsml_scopes.proofs.Lists.{each_one}
-use Rattle.rsml_scopes.proofs.Globals.{in_up_to}
-use Rattle.phrase_scopes.specs.Scoped.{ReceiveIsScoped}
+use Rattle.rsml_meaning.proofs.Lists.{each_one}
+use Rattle.rsml_meaning.proofs.Globals.{in_up_to}
+use Rattle.rsml_ground.specs.Scoped.{ReceiveIsScoped}
 use Rattle.rsml_meaning.specs.Instances.{events}
 use Rattle.rsml_meaning.specs.Interfaces.{ReceiveInstance, new_receive, receives}
 use Rattle.interfaces.specs.declared.field.Field.{Field}

@@ -13,7 +13,7 @@ use Rattle.rsml_meaning.specs.Worlds.{held, cell}
 use Rattle.rsml_meaning.specs.EventLines.{Message}
 use Rattle.rsml_meaning.specs.Runs.{number_for, told, latched_cell, latched}
 use Rattle.rsml_meaning.proofs.Same.{instance_same, instance_itself}
-use Rattle.rsml_scopes.proofs.Lists.{same_truth}
+use Rattle.rsml_meaning.proofs.Lists.{same_truth}
 use Rattle.state_arrays.specs.Places.{cell_place, previous_place}
 use Rattle.state_arrays.proofs.ArrayLemmas.{from_later}
 use Rattle.interfaces.specs.declared.field.Field.{Field}

@@ -11,7 +11,7 @@ use Rattle.rsml_meaning.specs.Cells.{InputCell, cells}
 use Rattle.rsml_meaning.specs.Worlds.{IsWorld}
 use Rattle.rsml_meaning.specs.EventLines.{Message}
 use Rattle.rsml_meaning.specs.Runs.{latched}
-use Rattle.rsml_scopes.proofs.rules.Scoped.{rules_give_scopes}
+use Rattle.rsml_meaning.proofs.rules.Scoped.{rules_give_scopes}
 use Rattle.state_arrays.specs.Places.{previous_place}
 use Rattle.interfaces.specs.declared.field.Field.{Field}
 use Rattle.interfaces.specs.Kept.{places, written, FieldsAre}

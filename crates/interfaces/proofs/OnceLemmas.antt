@@ -16,7 +16,7 @@ use Rattle.rsml_meaning.specs.Words.{Instance, Each, at, same_instance}
 use Rattle.rsml_meaning.specs.Instances.{globals_of}
 use Rattle.rsml_meaning.specs.Cells.{InputCell, cells, own_cells, previous_cells, as_previous}
 use Rattle.rsml_meaning.proofs.Same.{name_same, nat_same}
-use Rattle.rsml_scopes.proofs.Lists.{each_append, is_false}
+use Rattle.rsml_meaning.proofs.Lists.{each_append, is_false}
 use Rattle.state_arrays.specs.Arrays.{has_name}
 use Rattle.state_arrays.specs.Made.{inputs_of}
 use Rattle.state_arrays.proofs.CellLemmas.{all_inputs, own_each}

@@ -14,8 +14,8 @@ use Rattle.rsml_meaning.specs.Worlds.{IsWorld, is_choice, is_cell, held, cell}
 use Rattle.rsml_meaning.specs.EventLines.{Message}
 use Rattle.rsml_meaning.specs.Runs.{number_for, told, latched_cell, latched}
 use Rattle.rsml_meaning.proofs.Same.{instance_same, instance_itself}
-use Rattle.rsml_scopes.specs.Scoped.{WellScoped}
-use Rattle.rsml_scopes.proofs.Lists.{both, each_append, each_flat_map, each_map, each_more, each_filter, each_one, each_ones, one_front}
+use Rattle.rsml_meaning.specs.Scoped.{WellScoped}
+use Rattle.rsml_meaning.proofs.Lists.{both, each_append, each_flat_map, each_map, each_more, each_filter, each_one, each_ones, one_front}
 use Rattle.interfaces.specs.Writes.{AreTyped}
 
 abbrev fits : InputCell → ℤ → Bool

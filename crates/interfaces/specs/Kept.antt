@@ -10,7 +10,7 @@ use Rattle.rsml_meaning.specs.Interfaces.{ReceiveInstance, receives}
 use Rattle.rsml_meaning.specs.Truth.{within, instance}
 use Rattle.state_arrays.specs.Places.{cell_place, previous_place}
 use Rattle.rsml_ground.specs.Grounded.{IsShort}
-use Rattle.phrase_scopes.specs.Scoped.{InputIsScoped}
+use Rattle.rsml_ground.specs.Scoped.{InputIsScoped}
 use Rattle.interfaces.specs.declared.field.Field.{Field}
 use Rattle.interfaces.specs.declared.receive.Receive.{Receive}
 

@@ -4,7 +4,7 @@ ghost use Rattle.rsml_syntax.specs.limits.Comparisons.{index_number};
 ghost use Rattle.rsml_meaning.specs.Words.{Each, place_in};
 ghost use Rattle.rsml_meaning.specs.Instances as instances;
 ghost use Rattle.rsml_meaning.specs.Truth.{within, instance};
-ghost use Rattle.phrase_scopes.specs.Scoped.{InputIsScoped};
+ghost use Rattle.rsml_ground.specs.Scoped.{InputIsScoped};
 ghost use Rattle.interfaces.specs.Kept.{EventIsThere, places, written};
 
 use crate::field::Field;

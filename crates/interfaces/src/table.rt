@@ -4,7 +4,7 @@ ghost use Rattle.rsml_syntax.specs.rules.Globals.{indices, many, size_of};
 ghost use Rattle.rsml_syntax.specs.text.Names.{Name};
 ghost use Rattle.rsml_meaning.specs.Words.{Each};
 ghost use Rattle.rsml_meaning.specs.Interfaces.{ReceiveInstance, new_receive, receives_of};
-ghost use Rattle.phrase_scopes.specs.Scoped.{ReceiveIsScoped};
+ghost use Rattle.rsml_ground.specs.Scoped.{ReceiveIsScoped};
 ghost use Rattle.interfaces.specs.Kept.{IsThere, AreKept};
 
 use crate::building::{add_fields, event};

@@ -4,7 +4,7 @@ use Rattle.std.specs.Prelude.{IfOk, IsTrue, ◌↔◌, Bool, codes, decimal}
 use Rattle.std.specs.declared.alloc.Global.{Global}
 use Rattle.analysis.specs.Verdicts.{AreVerdicts}
 use Rattle.finding_texts.specs.declared.verdict.Verdict.{Verdict}
-use Rattle.one_run.specs.Laws.{CertifiedIsDeterministic, LastLineIsVerdict}
+use Rattle.rsml_meaning.specs.RunLaws.{CertifiedIsDeterministic, LastLineIsVerdict}
 use Rattle.rsml_base.specs.declared.no_memory.NoMemory.{NoMemory}
 use Rattle.rsml_meaning.specs.Certified.{Certified}
 use Rattle.rsml_meaning.specs.Report.{IsReport, refusals}

@@ -1,6 +1,6 @@
 -- The headline: what a certificate and a refusal say of a specification, and what was written of it.
 use Rattle.std.specs.Prelude.{◌≡◌, ℕ, ◌<◌, ◌++◌, codes, decimal}
-use Rattle.one_run.specs.Deterministic.{IsDeterministic}
+use Rattle.rsml_meaning.specs.Deterministic.{IsDeterministic}
 use Rattle.rsml_meaning.specs.Certified.{Certified}
 use Rattle.rsml_meaning.specs.Report.{Answers, AreRight, report_text}
 use Rattle.rsml_meaning.specs.Texts.{text_line}

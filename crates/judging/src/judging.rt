@@ -7,7 +7,7 @@ use crate::fault_lines::rule_fault;
 use crate::texts::{ReadText, read_text};
 use analysis::{Analysed, Report, analysis};
 use finding_texts::Verdict;
-use one_run::{certified_specifications_are_deterministic, last_lines_tell_the_verdict};
+use rsml_meaning::{certified_specifications_are_deterministic, last_lines_tell_the_verdict};
 use rsml_lexer::GREATEST_TEXT;
 use rsml_rules::check_rules;
 use rsml_syntax::{Checked, NoMemory, Spec};

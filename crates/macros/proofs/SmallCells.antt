@@ -26,8 +26,8 @@ use Rattle.rsml_syntax.specs.limits.Checked.{IsChecked}
 use Rattle.rsml_syntax.specs.text.Tokens.{greatest_number}
 use Rattle.rsml_ground.specs.Truths.{Grounded}
 use Rattle.rsml_ground.specs.Grounded.{IsShort, IsGrounded}
-use Rattle.phrase_scopes.proofs.Values.{has_few_values, few_values}
-use Rattle.phrase_scopes.proofs.Written.{DeclWritten, decls_written}
+use Rattle.rsml_ground.proofs.Values.{has_few_values, few_values}
+use Rattle.rsml_ground.proofs.Written.{DeclWritten, decls_written}
 use Rattle.macros.proofs.Below.{each_all}
 
 each_append : {A : Type 0} (P : A → Type 0) (xs ys : List A) → Each P xs → Each P ys → Each P (xs ++ ys)

@@ -29,7 +29,7 @@ use Rattle.micro_step.specs.declared.candidates.Candidate.{Candidate}
 use Rattle.prepared_phrases.specs.declared.asked.Asked.{Asked}
 use Rattle.prepared_phrases.specs.Asked.{AsksFor}
 use Rattle.micro_step.specs.Candidates.{Fits, HasGuardOf, TellsOf, AreFor, AreOnEvents, is_met}
-use Rattle.state_choices.specs.Choices.{AreOfComponents, TellActivity, are_chosen}
+use Rattle.rsml_ground.specs.Choices.{AreOfComponents, TellActivity, are_chosen}
 use Rattle.micro_step.specs.Places.{passes}
 use Rattle.micro_step.specs.Rising.{among}
 use Rattle.micro_step.proofs.LoopLemmas.{on_event}

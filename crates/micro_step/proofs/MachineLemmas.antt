@@ -18,7 +18,7 @@ use Rattle.rsml_meaning.specs.Transitions as meaning
 use Rattle.rsml_meaning.specs.Interfaces.{SendCaseInstance, send_cases}
 use Rattle.rsml_meaning.specs.Interfaces as meaning_of
 use Rattle.rsml_meaning.specs.Steps.{enabled_transitions, enabled_sends, raised_by}
-use Rattle.one_run.specs.Turns.{after_one, after_all}
+use Rattle.rsml_meaning.specs.Turns.{after_one, after_all}
 use Rattle.state_arrays.specs.Places.{path_at}
 use Rattle.state_tree.specs.Numbers.{component_path, path_of}
 use Rattle.state_tree.proofs.Lists.{get_within, beside}

@@ -7,9 +7,9 @@ use Rattle.rsml_syntax.specs.declared.world.World.{World}
 use Rattle.rsml_meaning.specs.Words.{Each, Instance}
 use Rattle.rsml_meaning.specs.Chains.{Ends}
 use Rattle.rsml_meaning.specs.Certified.{Certified}
-use Rattle.rsml_scopes.proofs.rules.Scoped.{rules_give_scopes}
-use Rattle.one_run.specs.MicroSteps.{IsDeterminate}
-use Rattle.one_run.specs.Laws.{MicroStepsLeaveWorlds, RoundsAreDeterminate}
+use Rattle.rsml_meaning.proofs.rules.Scoped.{rules_give_scopes}
+use Rattle.rsml_meaning.specs.MicroSteps.{IsDeterminate}
+use Rattle.rsml_meaning.specs.RunLaws.{MicroStepsLeaveWorlds, RoundsAreDeterminate}
 use Rattle.rsml_meaning.specs.Instances.{components}
 use Rattle.rsml_meaning.specs.Cells.{cells, is_of}
 use Rattle.rsml_meaning.specs.Worlds.{IsWorld, is_choice}

@@ -9,7 +9,7 @@ use Rattle.rsml_syntax.specs.limits.Checked.{IsChecked}
 use Rattle.rsml_meaning.specs.Words.{Instance, same_instance, has}
 use Rattle.rsml_meaning.specs.Instances.{events}
 use Rattle.rsml_meaning.proofs.Same.{instance_same, instance_itself}
-use Rattle.rsml_scopes.proofs.Lists.{same_truth}
+use Rattle.rsml_meaning.proofs.Lists.{same_truth}
 use Rattle.ground_members.specs.Members.{IsEvent}
 use Rattle.micro_step.specs.Rising.{among}
 use Rattle.micro_step.specs.Places.{items_where}

@@ -7,7 +7,7 @@ use Rattle.rsml_meaning.specs.Instances.{Component, components}
 use Rattle.rsml_meaning.specs.Active.{enter, given}
 use Rattle.rsml_meaning.specs.Transitions.{TransitionInstance}
 use Rattle.rsml_meaning.specs.Steps.{given_by, or_kept, outcomes, AreOutcomes}
-use Rattle.one_run.specs.Turns.{after_one, after_all}
+use Rattle.rsml_meaning.specs.Turns.{after_one, after_all}
 
 -- What a component gets in turn.
 

@@ -12,7 +12,7 @@ use Rattle.elaborate.specs.Enabled.{is_enabled, is_sending}
 use Rattle.micro_step.specs.declared.candidates.Candidate.{Candidate}
 use Rattle.prepared_phrases.specs.declared.asked.Asked.{Asked}
 use Rattle.prepared_phrases.specs.Asked.{AskedBelow, asked_truth}
-use Rattle.state_choices.specs.Choices.{AreOfComponents, are_chosen}
+use Rattle.rsml_ground.specs.Choices.{AreOfComponents, are_chosen}
 use Rattle.micro_step.specs.Places.{passes}
 
 -- the children of the choices are chosen, and the guard is true

@@ -14,7 +14,7 @@ use elaborate::Machine;
 use macros::Memo;
 use prepared_phrases::Asked;
 use rsml_syntax::World;
-use state_choices::{Choice, are_chosen};
+use rsml_ground::{Choice, are_chosen};
 
 /// A transition, or a case of a send, by its number: the children that make its source active, and how its guard is asked. Where
 /// the truth of the guard is kept once it is known, it is kept at the number of a transition with the same guard.

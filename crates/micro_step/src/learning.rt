@@ -8,7 +8,7 @@ use elaborate::Machine;
 use macros::Memo;
 use prepared_phrases::StatePhrase;
 use rsml_syntax::World;
-use state_choices::{Choice, are_chosen};
+use rsml_ground::{Choice, are_chosen};
 
 /// Whether the component of each choice of one of these lists has its child.
 fn is_some_chosen(chosen: &[u8], ways: &[Vec<Choice>]) -> bool

@@ -4,13 +4,13 @@ ghost use Rattle.rsml_meaning.specs.Instances.{components};
 ghost use Rattle.rsml_meaning.specs.Worlds.{IsWorld};
 ghost use Rattle.rsml_meaning.specs.Transitions.{TransitionInstance, transitions};
 ghost use Rattle.rsml_meaning.specs.Steps.{AreOutcomes};
-ghost use Rattle.one_run.specs.MicroSteps.{NoTwoOnALine};
-ghost use Rattle.one_run.specs.Turns.{IsActiveTransition, after_all};
+ghost use Rattle.rsml_meaning.specs.MicroSteps.{NoTwoOnALine};
+ghost use Rattle.rsml_meaning.specs.Turns.{IsActiveTransition, after_all};
 ghost use Rattle.micro_step.specs.Numbers.{after_number, picked};
 ghost use Rattle.micro_step.specs.Places.{ArePlaces};
 
 use elaborate::Machine;
-use one_run::order_does_not_matter;
+use rsml_meaning::order_does_not_matter;
 use rsml_syntax::{List, World};
 
 /// Enters the move of a transition. A stay enters nothing.

@@ -9,7 +9,7 @@ use crate::candidates::Candidate;
 use elaborate::Machine;
 use prepared_phrases::Asked;
 use rsml_syntax::NoMemory;
-use state_choices::choices_around;
+use rsml_ground::choices_around;
 use std::alloc::Global;
 
 /// How many candidates before a transition are looked through for its guard.

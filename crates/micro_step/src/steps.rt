@@ -3,7 +3,7 @@ ghost use Rattle.rsml_meaning.specs.Words.{Each, Instance};
 ghost use Rattle.rsml_meaning.specs.Worlds.{IsWorld};
 ghost use Rattle.rsml_meaning.specs.Chains.{Ends};
 ghost use Rattle.rsml_meaning.specs.Certified.{Certified};
-ghost use Rattle.one_run.specs.MicroSteps.{IsDeterminate};
+ghost use Rattle.rsml_meaning.specs.MicroSteps.{IsDeterminate};
 ghost use Rattle.macros.specs.Known.{Knows};
 ghost use Rattle.micro_step.specs.Micros.{AreEvents, IsMicro, events_in};
 ghost use Rattle.micro_step.specs.Numbers.{IsFor, left_by, of_cases, sent_at, taken_at};
@@ -13,7 +13,7 @@ use crate::moves::enter_all;
 use crate::raising::raise_all;
 use crate::scratch::Scratch;
 use elaborate::Machine;
-use one_run::{micro_steps_have_one_result, rounds_are_determinate};
+use rsml_meaning::{micro_steps_have_one_result, rounds_are_determinate};
 use rsml_syntax::World;
 
 /// One micro-step from a world on the events of a set, but for the moves: what is enabled is read in the world, and the set is

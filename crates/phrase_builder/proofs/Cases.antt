@@ -11,7 +11,7 @@ use Rattle.rsml_ground.specs.declared.definitions.GroundCase.{GroundCase}
 use Rattle.rsml_ground.specs.declared.definitions.Definition.TheVariants as definition
 use Rattle.rsml_ground.specs.declared.phrases.GroundPhrase.{GroundPhrase}
 use Rattle.rsml_ground.specs.StandsFor.{CaseIs, DefinitionIs}
-use Rattle.phrase_scopes.specs.Scoped.{CaseIsScoped, DefinitionIsScoped}
+use Rattle.rsml_ground.specs.Scoped.{CaseIsScoped, DefinitionIsScoped}
 use Rattle.phrase_builder.proofs.Lists.{each_numbered, zip_numbered}
 
 pub cases_scoped : (s : Spec) (n : ℕ) (name : Name) (cases : List Case) (index : ℕ) → DefinitionIsScoped s n (function_cases (new_function name cases index)) → Each (CaseIsScoped s n (within index)) cases

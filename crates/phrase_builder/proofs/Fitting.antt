@@ -31,7 +31,7 @@ use Rattle.rsml_ground.specs.declared.phrases.GroundPhrase.{GroundPhrase}
 use Rattle.rsml_ground.specs.declared.phrases.GroundPhrase.TheVariants as phrases
 use Rattle.rsml_ground.specs.Rests.{TableFits, GuardFits, CaseFits, DefinitionFits}
 use Rattle.rsml_ground.specs.StandsFor.{NumbersAre, PhraseIs, RowIs, TableIs, GuardIs, CaseIs, DefinitionIs}
-use Rattle.phrase_scopes.specs.Scoped.{TableIsScoped, GuardIsScoped, CaseIsScoped, DefinitionIsScoped}
+use Rattle.rsml_ground.specs.Scoped.{TableIsScoped, GuardIsScoped, CaseIsScoped, DefinitionIsScoped}
 use Rattle.phrase_builder.proofs.Lists.{get_below, zip_length, each_zip}
 use Rattle.phrase_builder.proofs.Operands.{sum_fits}
 

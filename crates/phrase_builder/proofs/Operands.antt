@@ -23,7 +23,7 @@ use Rattle.rsml_ground.specs.declared.sums.GroundTerm.{GroundTerm}
 use Rattle.rsml_ground.specs.declared.sums.GroundSum.{GroundSum}
 use Rattle.rsml_ground.specs.Rests.{IsSmall, OperandFits, SumFits}
 use Rattle.rsml_ground.specs.StandsFor.{MentionIs, OperandIs, TermIs, SumIs, IsFunction}
-use Rattle.phrase_scopes.specs.Scoped.{OperandIsScoped, SumIsScoped, FunctionIsScoped}
+use Rattle.rsml_ground.specs.Scoped.{OperandIsScoped, SumIsScoped, FunctionIsScoped}
 use Rattle.phrase_builder.specs.Constants.{IsNumber, AreNumbers}
 use Rattle.phrase_builder.proofs.Lists.{some_same, zip_length, each_zip}
 

@@ -6,7 +6,7 @@ use Rattle.rsml_meaning.specs.Interfaces.{definitions}
 use Rattle.rsml_ground.specs.declared.definitions.Definition.{Definition}
 use Rattle.rsml_ground.specs.declared.phrases.GroundPhrase.{GroundPhrase}
 use Rattle.rsml_ground.specs.StandsFor.{DefinitionIs}
-use Rattle.phrase_scopes.specs.Scoped.{DefinitionIsScoped, PhrasesAreScoped}
+use Rattle.rsml_ground.specs.Scoped.{DefinitionIsScoped, PhrasesAreScoped}
 use Rattle.phrase_builder.specs.declared.sources.Source.{Source}
 use Rattle.phrase_builder.specs.Sources.{defined_by, all_defined_by}
 use Rattle.phrase_builder.proofs.Lists.{get_map, item_is, zip_length, length_take, length_map}

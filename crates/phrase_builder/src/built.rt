@@ -1,13 +1,13 @@
 ghost use Rattle.std.specs.Prelude.{◌≡◌, IfOk};
 ghost use Rattle.rsml_meaning.specs.Interfaces.{definitions};
 ghost use Rattle.rsml_ground.specs.Grounded.{IsGrounded};
-ghost use Rattle.phrase_scopes.specs.Scoped.{PhrasesAreScoped};
+ghost use Rattle.rsml_ground.specs.Scoped.{PhrasesAreScoped};
 ghost use Rattle.phrase_builder.specs.Sources.{all_defined_by};
 
 use crate::definitions::definition;
 use crate::lookup::Lookup;
 use crate::sources::{Source, sources};
-use phrase_scopes::rules_scope_phrases;
+use rsml_ground::rules_scope_phrases;
 use rsml_ground::{Definition, Phrases};
 use rsml_syntax::NoMemory;
 use std::alloc::Global;

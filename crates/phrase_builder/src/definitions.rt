@@ -2,7 +2,7 @@ ghost use Rattle.std.specs.Prelude.{IfOk, length};
 ghost use Rattle.rsml_meaning.specs.Cells.{cells};
 ghost use Rattle.rsml_ground.specs.Rests.{Rest};
 ghost use Rattle.rsml_ground.specs.StandsFor.{DefinitionIs};
-ghost use Rattle.phrase_scopes.specs.Scoped.{DefinitionIsScoped};
+ghost use Rattle.rsml_ground.specs.Scoped.{DefinitionIsScoped};
 ghost use Rattle.phrase_builder.specs.Grown.{Grew};
 ghost use Rattle.phrase_builder.specs.Sources.{defined_by};
 

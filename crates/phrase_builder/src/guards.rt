@@ -6,7 +6,7 @@ ghost use Rattle.rsml_ground.specs.Grounded.{IsGrounded};
 ghost use Rattle.rsml_ground.specs.Numbers.{Keeps};
 ghost use Rattle.rsml_ground.specs.Rests.{GuardFits, SumFits};
 ghost use Rattle.rsml_ground.specs.StandsFor.{GuardIs, SumIs, IsFunction};
-ghost use Rattle.phrase_scopes.specs.Scoped.{GuardIsScoped, SumIsScoped, FunctionIsScoped};
+ghost use Rattle.rsml_ground.specs.Scoped.{GuardIsScoped, SumIsScoped, FunctionIsScoped};
 
 use crate::here::Here;
 use crate::lookup::Lookup;

@@ -11,7 +11,7 @@ ghost use Rattle.state_arrays.specs.Places as places;
 ghost use Rattle.rsml_ground.specs.Grounded.{IsShort};
 ghost use Rattle.rsml_ground.specs.Rests.{IsSmall};
 ghost use Rattle.rsml_ground.specs.StandsFor.{IsNode};
-ghost use Rattle.phrase_scopes.specs.Scoped.{IndexFits, PathIsScoped};
+ghost use Rattle.rsml_ground.specs.Scoped.{IndexFits, PathIsScoped};
 
 use crate::here::Here;
 use rsml_names::{Globals, Known};

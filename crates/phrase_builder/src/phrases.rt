@@ -5,7 +5,7 @@ ghost use Rattle.rsml_meaning.specs.Instances.{globals_of};
 ghost use Rattle.rsml_meaning.specs.Truth.{within, quantified};
 ghost use Rattle.rsml_ground.specs.Rests.{Rest};
 ghost use Rattle.rsml_ground.specs.StandsFor.{SimpleIs, NumberIs, NumbersAre, PhraseIs};
-ghost use Rattle.phrase_scopes.specs.Scoped.{SimpleIsScoped, QuantifiedIsScoped, PhraseIsScoped};
+ghost use Rattle.rsml_ground.specs.Scoped.{SimpleIsScoped, QuantifiedIsScoped, PhraseIsScoped};
 ghost use Rattle.phrase_builder.specs.Grown.{Grew, SimpleFits};
 
 use crate::here::Here;

@@ -5,7 +5,7 @@ ghost use Rattle.rsml_meaning.specs.Cells.{cells};
 ghost use Rattle.rsml_ground.specs.Rests.{SumFits};
 ghost use Rattle.rsml_ground.specs.StandsFor.{OperandIs, TermIs, SumIs};
 ghost use Rattle.rsml_ground.specs.Truths.{term_number, sum_number};
-ghost use Rattle.phrase_scopes.specs.Scoped.{OperandIsScoped, SumIsScoped};
+ghost use Rattle.rsml_ground.specs.Scoped.{OperandIsScoped, SumIsScoped};
 ghost use Rattle.phrase_builder.specs.Constants.{IsNumber, AreNumbers};
 
 use crate::here::Here;

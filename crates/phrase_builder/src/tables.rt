@@ -5,7 +5,7 @@ ghost use Rattle.rsml_meaning.specs.Cells.{cells};
 ghost use Rattle.rsml_meaning.specs.Truth.{within};
 ghost use Rattle.rsml_ground.specs.Rests.{Rest};
 ghost use Rattle.rsml_ground.specs.StandsFor.{RowIs, TableIs, GuardIs, CaseIs};
-ghost use Rattle.phrase_scopes.specs.Scoped.{PhraseIsScoped, TableIsScoped, GuardIsScoped, CaseIsScoped};
+ghost use Rattle.rsml_ground.specs.Scoped.{PhraseIsScoped, TableIsScoped, GuardIsScoped, CaseIsScoped};
 ghost use Rattle.phrase_builder.specs.Grown.{Grew};
 
 use crate::here::Here;

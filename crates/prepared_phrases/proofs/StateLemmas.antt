@@ -11,8 +11,8 @@ use Rattle.rsml_ground.specs.declared.phrases.GroundPhrase.{GroundPhrase}
 use Rattle.rsml_ground.specs.declared.phrases.GroundPhrase.TheVariants as phrases
 use Rattle.rsml_ground.specs.Truths.{Grounded, is_active, truths_in}
 use Rattle.macros.proofs.Asking.{truth_is}
-use Rattle.state_choices.specs.declared.choices.Choice.{Choice}
-use Rattle.state_choices.specs.Choices.{AreOfComponents}
+use Rattle.rsml_ground.specs.declared.choices.Choice.{Choice}
+use Rattle.rsml_ground.specs.Choices.{AreOfComponents}
 use Rattle.prepared_phrases.specs.StatePhrases.{AreWays, some_chosen}
 
 -- the phrase that a state is active is true where it is

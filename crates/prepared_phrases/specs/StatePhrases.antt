@@ -5,9 +5,9 @@ use Rattle.rsml_syntax.specs.declared.world.World.{World}
 use Rattle.rsml_meaning.specs.Worlds.{IsWorld}
 use Rattle.and_or_tables.specs.Ground.{known}
 use Rattle.rsml_ground.specs.Truths.{Grounded, truths_in}
-use Rattle.state_choices.specs.declared.choices.Choice.{Choice}
+use Rattle.rsml_ground.specs.declared.choices.Choice.{Choice}
 use Rattle.prepared_phrases.specs.declared.state_phrases.StatePhrase.{StatePhrase}
-use Rattle.state_choices.specs.Choices.{AreOfComponents, are_chosen}
+use Rattle.rsml_ground.specs.Choices.{AreOfComponents, are_chosen}
 
 -- the component of each choice of one of these lists has its child
 abbrev pub some_chosen : List ℕ → List (List Choice) → Bool

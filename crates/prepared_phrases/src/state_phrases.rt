@@ -5,13 +5,13 @@ ghost use Rattle.rsml_meaning.specs.Instances.{states};
 ghost use Rattle.rsml_meaning.specs.Worlds.{IsWorld};
 ghost use Rattle.and_or_tables.specs.Ground.{known};
 ghost use Rattle.rsml_ground.specs.Truths.{is_active, truths_in};
-ghost use Rattle.state_choices.specs.Choices.{AreOfComponents, are_chosen};
+ghost use Rattle.rsml_ground.specs.Choices.{AreOfComponents, are_chosen};
 ghost use Rattle.prepared_phrases.specs.StatePhrases.{AreWays, IsStatePhrase, IsWay, some_chosen};
 
 use macros::Macros;
 use rsml_ground::GroundPhrase;
 use rsml_syntax::NoMemory;
-use state_choices::{Choice, choices_around};
+use rsml_ground::{Choice, choices_around};
 use state_tree::Tree;
 use std::alloc::Global;
 

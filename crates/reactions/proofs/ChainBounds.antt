@@ -11,8 +11,8 @@ use Rattle.rsml_meaning.specs.Transitions.{TransitionInstance, transitions, is_o
 use Rattle.rsml_meaning.specs.Chains.{is_external, leads, linked, is_chain, begins_with, Ends}
 use Rattle.rsml_meaning.specs.Certified.{Certified}
 use Rattle.rsml_meaning.proofs.Same.{instance_same, instance_itself}
-use Rattle.rsml_scopes.specs.Scoped.{WellScoped, IsEvent}
-use Rattle.rsml_scopes.proofs.Lists.{each_one, any_some}
+use Rattle.rsml_meaning.specs.Scoped.{WellScoped, IsEvent}
+use Rattle.rsml_meaning.proofs.Lists.{each_one, any_some}
 use Rattle.state_tree.proofs.Lists.{get_within, place_of_one, as_long}
 use Rattle.event_graph.proofs.Pigeons.{among, firsts, length_firsts, among_firsts, within, both, too_many}
 use Rattle.micro_step.specs.Places.{ArePlaces}

@@ -8,7 +8,7 @@ use Rattle.rsml_meaning.specs.Instances.{events}
 use Rattle.rsml_meaning.specs.Interfaces.{ReceiveInstance, receives}
 use Rattle.rsml_meaning.specs.Chains.{is_external}
 use Rattle.rsml_meaning.proofs.Same.{instance_itself}
-use Rattle.rsml_scopes.proofs.Lists.{is_false, any_one}
+use Rattle.rsml_meaning.proofs.Lists.{is_false, any_one}
 use Rattle.state_tree.proofs.Lists.{get_within, within_get, one_at}
 use Rattle.ground_members.proofs.Numbers.{place_is}
 use Rattle.micro_step.specs.declared.events.Events.{Events}

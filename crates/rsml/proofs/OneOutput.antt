@@ -1,7 +1,7 @@
 -- What a command answers and writes is one thing.
 use Rattle.std.proofs.Common.{◌≡◌, ℕ, List, Some, None, length, sym, ap, ◌∙◌, subst}
 use Rattle.std.specs.Prelude.{◌++◌}
-use Rattle.one_run.specs.Laws.{LastLineIsVerdict, LinesHaveOneRun}
+use Rattle.rsml_meaning.specs.RunLaws.{LastLineIsVerdict, LinesHaveOneRun}
 use Rattle.rsml_lexer.specs.Laws.{AtMostOneTokenList, AtMostOneFirstFault, NeverBoth}
 use Rattle.rsml_meaning.specs.Certified.{Certified}
 use Rattle.rsml_meaning.specs.EventFiles.{Line, program_limits, FileFault, IsWellFormed, IsFirstFault, lines_of, sound_lines}
@@ -10,7 +10,7 @@ use Rattle.rsml_meaning.specs.Laws.{ReportIsOne, WellFormedHasNoFault, FirstFaul
 use Rattle.rsml_meaning.specs.Runs.{Reaction, IsRun}
 use Rattle.rsml_meaning.specs.Trace.{trace_text, whole_trace}
 use Rattle.rsml_parser.specs.Laws.{HasOneAnswer}
-use Rattle.rsml_scopes.specs.Laws.{RulesGiveScopes}
+use Rattle.rsml_meaning.specs.ScopeLaws.{RulesGiveScopes}
 use Rattle.rsml_syntax.specs.declared.syntax.Spec.{Spec}
 use Rattle.rsml_syntax.specs.limits.Limits.{Keeps}
 use Rattle.simulator.specs.Outputs.{end_of, fault_line, done, faulty}

@@ -4,3 +4,21 @@ pub mod Equal
 mod Examples
 pub mod PhraseLemmas
 pub mod SumLemmas
+pub mod Declared
+pub mod DefinitionScopes
+pub mod Earlier
+pub mod Found
+pub mod Guards
+pub mod Operands
+pub mod Owners
+pub mod Paths
+pub mod PhraseScopes
+pub mod Reading
+pub mod Receives
+pub mod Sends
+pub mod Transitions
+pub mod Values
+pub mod Written
+pub mod Names
+pub mod Components
+pub mod Activity

@@ -26,7 +26,7 @@ use Rattle.rsml_meaning.specs.Truth.{View, bare, view, within, quantified, insta
 use Rattle.rsml_meaning.specs.Interfaces.{FunctionInstance, macro_table, function_cases, definitions}
 use Rattle.rsml_meaning.specs.Active.{active}
 use Rattle.rsml_meaning.proofs.Stable.{same_rest, macros_are_their_tables, functions_give_their_cases}
-use Rattle.rsml_scopes.proofs.rules.Order.{is_in_order}
+use Rattle.rsml_meaning.proofs.rules.Order.{is_in_order}
 use Rattle.and_or_tables.specs.Ground.{known, ground_row}
 use Rattle.and_or_tables.specs.declared.ground.GroundRow.{GroundRow}
 use Rattle.rsml_ground.specs.declared.definitions.GroundGuard.{GroundGuard}

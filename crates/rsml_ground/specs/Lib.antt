@@ -4,3 +4,7 @@ pub mod Numbers
 pub mod Rests
 pub mod StandsFor
 pub mod Truths
+pub mod PhraseLaws
+pub mod Scoped
+pub mod Children
+pub mod Choices

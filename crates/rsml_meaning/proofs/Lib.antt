@@ -22,3 +22,23 @@ mod WellFormed
 mod Written
 mod examples
 pub mod values
+pub mod Globals
+pub mod Lists
+pub mod rules
+mod Apart
+mod Deterministic
+mod Examples
+mod Latched
+mod Lines
+mod Longer
+mod Lowest
+mod Messages
+mod MicroSteps
+mod Runs
+mod Sends
+mod Sources
+mod Steps
+mod Turns
+mod Values
+mod Verdict
+mod Worlds

@@ -17,7 +17,7 @@ use Rattle.rsml_meaning.proofs.Same.{instance_same}
 use Rattle.rsml_meaning.proofs.AllWorlds.{below, one_below}
 use Rattle.rsml_meaning.proofs.Lengths.{raised_on, ends_in, passes, in_front, in_back, is_raised, chain_short}
 use Rattle.rsml_meaning.proofs.Repeats.{twice_is_unbounded}
-use Rattle.rsml_meaning.proofs.Verdicts.{judges, verdict_is, each_so}
+use Rattle.rsml_meaning.proofs.VerdictLines.{judges, verdict_is, each_so}
 
 both : (a b : Bool) → a ≡ true → b ≡ true → (a && b) ≡ true
 both a b p q = ap (λ c. c && b) p ∙ q

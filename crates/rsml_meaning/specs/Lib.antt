@@ -20,3 +20,10 @@ pub mod Transitions
 pub mod Truth
 pub mod Words
 pub mod Worlds
+pub mod ScopeLaws
+pub mod Scoped
+pub mod Deterministic
+pub mod RunLaws
+pub mod MicroSteps
+pub mod Turns
+pub mod Whole

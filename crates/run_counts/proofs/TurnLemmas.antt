@@ -5,7 +5,7 @@ use Rattle.rsml_meaning.specs.Words.{Each, Instance}
 use Rattle.rsml_meaning.specs.Instances.{events}
 use Rattle.rsml_meaning.specs.Chains.{Ends}
 use Rattle.rsml_meaning.specs.Certified.{Certified}
-use Rattle.rsml_scopes.specs.Scoped.{WellScoped}
+use Rattle.rsml_meaning.specs.Scoped.{WellScoped}
 use Rattle.elaborate.specs.Machine.{GroundMachine}
 use Rattle.micro_step.specs.declared.events.Events.{Events}
 use Rattle.micro_step.specs.Micros.{AreEvents, events_in}

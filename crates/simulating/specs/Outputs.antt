@@ -5,7 +5,7 @@ use Rattle.rsml_meaning.specs.EventFiles.{program_limits}
 use Rattle.rsml_meaning.specs.EventLines.{Bytes}
 use Rattle.rsml_syntax.specs.declared.syntax.Spec.{Spec}
 use Rattle.rsml_syntax.specs.limits.Limits.{Keeps}
-use Rattle.one_run.specs.Deterministic.{IsDeterministic}
+use Rattle.rsml_meaning.specs.Deterministic.{IsDeterministic}
 use Rattle.simulator.specs.Outputs as simulation
 use Rattle.simulator.specs.declared.sim_end.SimEnd.{SimEnd}
 use Rattle.simulator.specs.declared.sim_end.SimEnd.TheVariants as end

@@ -6,8 +6,8 @@ use Rattle.rsml_meaning.specs.EventLines.{Bytes, Message, is_skipped, breaks, te
 use Rattle.rsml_meaning.specs.EventFiles.{Limits, Line, FileFault, long_line, broken_line, long_file, without_return, messages, is_long, is_cut, fault_at, lines_before, IsFirstFault}
 use Rattle.rsml_meaning.specs.Laws.{WellFormedHasNoFault, FirstFaultIsOfLine}
 use Rattle.rsml_meaning.specs.Runs.{latched}
-use Rattle.rsml_scopes.proofs.Lists.{each_append}
-use Rattle.rsml_scopes.proofs.Lists.{each_more as each_as}
+use Rattle.rsml_meaning.proofs.Lists.{each_append}
+use Rattle.rsml_meaning.proofs.Lists.{each_more as each_as}
 use Rattle.event_file.specs.Reading.{Reading, Fits, Answers, GivesLine, Begins, line_at, lines_ahead, next_at, next_of, taken, IsRight}
 use Rattle.event_file.specs.declared.next.Next.{Next}
 use Rattle.event_file.specs.declared.next.Next.TheVariants as next

@@ -11,8 +11,8 @@ use Rattle.rsml_meaning.specs.Laws.{WellFormedHasNoFault, FirstFaultIsOfLine}
 use Rattle.rsml_meaning.specs.Runs.{Reaction, first_world, latched, IsReaction, IsRunFrom, IsRun}
 use Rattle.rsml_meaning.specs.Steps.{IsStep}
 use Rattle.rsml_meaning.specs.Trace.{reaction_text, trace_text}
-use Rattle.rsml_scopes.specs.Scoped.{WellScoped}
-use Rattle.one_run.specs.Laws.{LinesHaveOneRun}
+use Rattle.rsml_meaning.specs.Scoped.{WellScoped}
+use Rattle.rsml_meaning.specs.RunLaws.{LinesHaveOneRun}
 use Rattle.text_writer.specs.Writes.{WriterState}
 use Rattle.text_writer.proofs.WritingLemmas.{alike}
 use Rattle.event_file.specs.Reading.{Reading, Fits, lines_ahead, taken}

@@ -5,8 +5,8 @@ use Rattle.rsml_meaning.specs.EventLines.{Bytes}
 use Rattle.rsml_meaning.specs.EventFiles.{messages}
 use Rattle.rsml_meaning.specs.Interfaces.{ReceiveInstance, receives}
 use Rattle.rsml_meaning.specs.Laws.{WellFormedHasNoFault, FirstFaultIsOfLine}
-use Rattle.rsml_scopes.specs.Scoped.{WellScoped}
-use Rattle.one_run.specs.Laws.{LinesHaveOneRun}
+use Rattle.rsml_meaning.specs.Scoped.{WellScoped}
+use Rattle.rsml_meaning.specs.RunLaws.{LinesHaveOneRun}
 use Rattle.text_writer.specs.Writes.{WriterState}
 use Rattle.event_file.specs.Reading.{taken}
 use Rattle.buffered_sink.specs.Buffering.{Flushes}

@@ -10,8 +10,8 @@ use Rattle.rsml_meaning.specs.EventFiles.{Limits, Line, FileFault, lines_of, fau
 use Rattle.rsml_meaning.specs.Laws.{WellFormedHasNoFault, FirstFaultIsOfLine}
 use Rattle.rsml_meaning.specs.Runs.{Reaction, IsRun}
 use Rattle.rsml_meaning.specs.Trace.{trace_text, end_line}
-use Rattle.rsml_scopes.specs.Scoped.{WellScoped}
-use Rattle.one_run.specs.Laws.{LinesHaveOneRun}
+use Rattle.rsml_meaning.specs.Scoped.{WellScoped}
+use Rattle.rsml_meaning.specs.RunLaws.{LinesHaveOneRun}
 use Rattle.event_file.specs.Reading.{lines_ahead}
 use Rattle.event_lines.specs.declared.line_fault.LineFault.{LineFault}
 use Rattle.event_lines.specs.declared.line_fault.LineFault.TheVariants.{NotUtf8, UnknownInterface, BadIndex, WrongField, ExtraWord, NotAValue, OutOfRange}

@@ -9,7 +9,7 @@ use Rattle.rsml_meaning.specs.Chains.{Ends}
 use Rattle.rsml_meaning.specs.Certified.{Certified}
 use Rattle.rsml_meaning.specs.Steps.{Round, IsRound, IsStep}
 use Rattle.rsml_meaning.specs.Trace.{round_text}
-use Rattle.rsml_scopes.specs.Scoped.{WellScoped}
+use Rattle.rsml_meaning.specs.Scoped.{WellScoped}
 use Rattle.text_writer.specs.Writes.{WriterState, Writes}
 use Rattle.text_writer.proofs.WritingLemmas.{followed, alike, still}
 use Rattle.reactions.specs.Stepping.{LastRound, IsExternal, RoundIsDone, WasRound}

@@ -8,8 +8,8 @@ use Rattle.rsml_meaning.specs.EventLines.{Bytes, Message}
 use Rattle.rsml_meaning.specs.EventFiles.{Line, message, messages}
 use Rattle.rsml_meaning.specs.Runs.{Reaction, first_world, IsRunFrom, IsRun}
 use Rattle.rsml_meaning.specs.Trace.{trace_text}
-use Rattle.rsml_scopes.specs.Scoped.{WellScoped}
-use Rattle.one_run.specs.Laws.{LinesHaveOneRun}
+use Rattle.rsml_meaning.specs.Scoped.{WellScoped}
+use Rattle.rsml_meaning.specs.RunLaws.{LinesHaveOneRun}
 use Rattle.simulator.specs.helpers.Series.{world_after, texts_from}
 use Rattle.simulator.proofs.SeriesLemmas.{trace_both}
 

@@ -12,7 +12,7 @@ use crate::reacting::put_reaction;
 use crate::sim_end::SimEnd;
 use crate::upcoming::Upcoming;
 use buffered_sink::BufferedSink;
-use one_run::event_files_have_one_run;
+use rsml_meaning::event_files_have_one_run;
 use rsml_io::{Files, Sink};
 use rsml_meaning::{a_first_fault_is_of_a_line, well_formed_files_have_no_fault};
 

@@ -8,7 +8,7 @@ ghost use Rattle.rsml_meaning.specs.Interfaces.{ReceiveInstance, receives};
 ghost use Rattle.rsml_meaning.specs.Runs.{first_world};
 ghost use Rattle.rsml_meaning.specs.Steps.{Round};
 ghost use Rattle.rsml_meaning.specs.Trace.{event_line, round_text};
-ghost use Rattle.rsml_scopes.specs.Scoped.{WellScoped};
+ghost use Rattle.rsml_meaning.specs.Scoped.{WellScoped};
 ghost use Rattle.text_writer.specs.Writes.{Writes};
 ghost use Rattle.event_lines.specs.Told.{rule_of};
 ghost use Rattle.micro_step.specs.Rows.{bits_of, member_rows};

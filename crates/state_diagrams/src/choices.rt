@@ -4,7 +4,7 @@ ghost use Rattle.rsml_syntax.specs.limits.Checked.{IsChecked};
 ghost use Rattle.rsml_meaning.specs.Instances.{Component, states, components};
 ghost use Rattle.bdd_core.specs.Calls.{Keeps};
 ghost use Rattle.world_sums.specs.Tells.{Tells};
-ghost use Rattle.state_choices.specs.Children.{IsPlaceOf, has_child};
+ghost use Rattle.rsml_ground.specs.Children.{IsPlaceOf, has_child};
 ghost use Rattle.state_diagrams.specs.Active.{SpellChoices};
 
 use bdd_core::{Arena, Ref};

@@ -14,9 +14,9 @@ use Rattle.rsml_meaning.specs.Cells.{InputCell, cells, is_of}
 use Rattle.rsml_meaning.specs.Worlds.{IsWorld, is_choice}
 use Rattle.rsml_meaning.specs.Runs.{first_world}
 use Rattle.rsml_meaning.proofs.Prefixes.{prefix_self}
-use Rattle.rsml_scopes.specs.Scoped.{WellScoped}
-use Rattle.rsml_scopes.proofs.Lists.{both}
-use Rattle.rsml_scopes.proofs.rules.Scoped.{rules_give_scopes}
+use Rattle.rsml_meaning.specs.Scoped.{WellScoped}
+use Rattle.rsml_meaning.proofs.Lists.{both}
+use Rattle.rsml_meaning.proofs.rules.Scoped.{rules_give_scopes}
 use Rattle.state_tree.specs.Numbers.{path_of, component_path}
 use Rattle.state_tree.proofs.Lists.{get_map, place_of_one, within_get}
 use Rattle.state_tree.proofs.Goods.{good_at}

@@ -11,7 +11,7 @@ use Rattle.rsml_meaning.specs.Groups.{Group, state, function, groups, meets, ena
 use Rattle.rsml_meaning.specs.Findings.{IsVerdict, sound, none, two}
 use Rattle.rsml_meaning.specs.Texts.{Text, label}
 use Rattle.rsml_meaning.specs.Report.{finding, group_text}
-use Rattle.rsml_meaning.proofs.Verdicts.{verdict_is}
+use Rattle.rsml_meaning.proofs.VerdictLines.{verdict_is}
 use Rattle.rsml_meaning.proofs.examples.Worlds.{world, state_at}
 use Rattle.rsml_meaning.proofs.values.Deep.{deep}
 use Rattle.rsml_meaning.proofs.values.Grades.{grades}

@@ -1,6 +1,6 @@
 use Rattle.std.proofs.Common.{◌<◌, ◌==◌, ◌&&◌, ◌||◌, List, length, ap, sym, ◌∙◌, arith}
 use Rattle.rsml_meaning.specs.Instances.{states}
-use Rattle.rsml_scopes.proofs.Lists.{each_one, each_more}
+use Rattle.rsml_meaning.proofs.Lists.{each_one, each_more}
 use Rattle.event_graph.specs.declared.events.Events.{Events}
 use Rattle.event_graph.specs.Sets.{has_at}
 use Rattle.event_graph.specs.Graphs.{meets}

@@ -1,5 +1,5 @@
 use Rattle.rsml_meaning.specs.Truth.{within, instance}
-use Rattle.phrase_scopes.specs.Scoped.{InputIsScoped}
+use Rattle.rsml_ground.specs.Scoped.{InputIsScoped}
 use Rattle.interfaces.proofs.TurnLemmas.{each_at}
 use Rattle.interfaces.proofs.building.add_fields.Goals as goal
 

@@ -1,5 +1,5 @@
 use Rattle.std.proofs.Common.{sym, ap, ◌∙◌}
-use Rattle.state_choices.specs.Choices.{are_chosen}
+use Rattle.rsml_ground.specs.Choices.{are_chosen}
 use Rattle.prepared_phrases.proofs.StateLemmas.{some_of_one}
 use Rattle.micro_step.proofs.learning.is_some_chosen.Goals as goal
 

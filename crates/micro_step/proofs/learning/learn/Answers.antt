@@ -4,7 +4,7 @@ use Rattle.rsml_meaning.specs.Instances.{components}
 use Rattle.rsml_ground.specs.Truths.{truths_in}
 use Rattle.macros.specs.Known.{Knows}
 use Rattle.macros.proofs.Learning.{learned_right}
-use Rattle.state_choices.specs.declared.choices.Choice.{Choice}
+use Rattle.rsml_ground.specs.declared.choices.Choice.{Choice}
 use Rattle.prepared_phrases.specs.StatePhrases.{some_chosen}
 use Rattle.micro_step.proofs.MicroLemmas.{world_choices}
 use Rattle.prepared_phrases.proofs.StateLemmas.{of_each}

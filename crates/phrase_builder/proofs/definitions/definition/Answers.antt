@@ -1,5 +1,5 @@
 use Rattle.std.proofs.Common.{length, subst}
-use Rattle.phrase_scopes.specs.Scoped.{DefinitionIsScoped}
+use Rattle.rsml_ground.specs.Scoped.{DefinitionIsScoped}
 use Rattle.phrase_builder.specs.Sources.{instance_of}
 use Rattle.phrase_builder.proofs.Cases.{cases_scoped}
 use Rattle.phrase_builder.proofs.definitions.definition.Goals as goal

@@ -2,7 +2,7 @@ use Rattle.std.proofs.Common.{◌<◌, ◌^◌, length, subst, rules}
 use Rattle.rsml_meaning.specs.Interfaces.{definitions}
 use Rattle.rsml_meaning.specs.Truth.{within}
 use Rattle.rsml_ground.specs.StandsFor.{DefinitionIs}
-use Rattle.phrase_scopes.specs.Scoped.{GuardIsScoped}
+use Rattle.rsml_ground.specs.Scoped.{GuardIsScoped}
 use Rattle.phrase_builder.proofs.Fitting.{guards_fit}
 use Rattle.phrase_builder.proofs.Lists.{zip_length, zip_to}
 use Rattle.phrase_builder.proofs.Standing.{definition_stays}

@@ -1,5 +1,5 @@
 use Rattle.std.proofs.Common.{subst, length}
-use Rattle.phrase_scopes.specs.Scoped.{SimpleIsScoped}
+use Rattle.rsml_ground.specs.Scoped.{SimpleIsScoped}
 use Rattle.phrase_builder.proofs.Operands.{constant_numbers}
 use Rattle.phrase_builder.proofs.phrases.ground_simple.Goals as goal
 

@@ -4,7 +4,7 @@ use Rattle.rsml_meaning.specs.Cells.{cells}
 use Rattle.rsml_meaning.specs.Instances.{globals_of}
 use Rattle.rsml_meaning.specs.Truth.{within, quantified}
 use Rattle.rsml_ground.specs.StandsFor.{NumberIs}
-use Rattle.phrase_scopes.specs.Scoped.{SimpleIsScoped}
+use Rattle.rsml_ground.specs.Scoped.{SimpleIsScoped}
 use Rattle.phrase_builder.proofs.Growing.{grew_both}
 use Rattle.phrase_builder.proofs.Lists.{each_up_to, up_to_turn}
 use Rattle.phrase_builder.proofs.Standing.{number_stays}

@@ -1,5 +1,5 @@
 use Rattle.std.proofs.Common.{subst}
-use Rattle.phrase_scopes.specs.Scoped.{OperandIsScoped}
+use Rattle.rsml_ground.specs.Scoped.{OperandIsScoped}
 use Rattle.phrase_builder.proofs.Operands.{previous_cell}
 use Rattle.phrase_builder.proofs.sums.operand.Goals as goal
 

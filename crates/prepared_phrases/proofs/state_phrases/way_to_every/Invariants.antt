@@ -4,7 +4,7 @@ use Rattle.rsml_syntax.specs.declared.world.World.{World}
 use Rattle.rsml_meaning.specs.Worlds.{IsWorld}
 use Rattle.and_or_tables.specs.Ground.{known}
 use Rattle.rsml_ground.specs.Truths.{truths_in}
-use Rattle.state_choices.specs.Choices.{AreOfComponents, are_chosen}
+use Rattle.rsml_ground.specs.Choices.{AreOfComponents, are_chosen}
 use Rattle.prepared_phrases.proofs.state_phrases.way_to_every.Given as goal
 
 abbrev pub invariant-loop-number : goal.invariant-loop-number

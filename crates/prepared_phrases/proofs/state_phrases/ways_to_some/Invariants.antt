@@ -4,7 +4,7 @@ use Rattle.rsml_syntax.specs.declared.world.World.{World}
 use Rattle.rsml_meaning.specs.Worlds.{IsWorld}
 use Rattle.and_or_tables.specs.Ground.{known}
 use Rattle.rsml_ground.specs.Truths.{truths_in}
-use Rattle.state_choices.specs.Choices.{AreOfComponents}
+use Rattle.rsml_ground.specs.Choices.{AreOfComponents}
 use Rattle.prepared_phrases.specs.StatePhrases.{some_chosen}
 use Rattle.prepared_phrases.proofs.state_phrases.ways_to_some.Given as goal
 

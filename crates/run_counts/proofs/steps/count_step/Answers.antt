@@ -1,7 +1,7 @@
 use Rattle.std.proofs.Common.{◌≡◌, length, ap, arith}
 use Rattle.rsml_meaning.specs.Instances.{events}
-use Rattle.rsml_scopes.specs.Scoped.{WellScoped}
-use Rattle.rsml_scopes.proofs.rules.Scoped.{rules_give_scopes}
+use Rattle.rsml_meaning.specs.Scoped.{WellScoped}
+use Rattle.rsml_meaning.proofs.rules.Scoped.{rules_give_scopes}
 use Rattle.run_counts.specs.declared.counts.Counts.{Counts}
 use Rattle.run_counts.proofs.TurnLemmas.{no_turn, next_turn, last_turn, no_more_turns}
 use Rattle.run_counts.proofs.steps.count_step.Goals as goal

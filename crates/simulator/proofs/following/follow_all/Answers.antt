@@ -3,7 +3,7 @@ use Rattle.rsml_syntax.specs.declared.syntax.Spec.{Spec}
 use Rattle.rsml_meaning.specs.Certified.{Certified}
 use Rattle.rsml_meaning.specs.EventFiles.{Limits}
 use Rattle.rsml_meaning.specs.Interfaces.{receives}
-use Rattle.rsml_scopes.specs.Scoped.{WellScoped}
+use Rattle.rsml_meaning.specs.Scoped.{WellScoped}
 use Rattle.buffered_sink.specs.Parts.{state_of, text_of}
 use Rattle.event_file.specs.Reading.{Reading, taken}
 use Rattle.simulator.specs.Simulation.{Simulation}

@@ -3,7 +3,7 @@ use Rattle.rsml_meaning.specs.Instances.{states, components}
 use Rattle.rsml_meaning.specs.Active.{chosen}
 use Rattle.state_tree.specs.nodes.Numbers.{paths}
 use Rattle.state_tree.proofs.Lists.{within_get}
-use Rattle.state_choices.proofs.Activity.{place_found, not_this, before_or_at}
+use Rattle.rsml_ground.proofs.Activity.{place_found, not_this, before_or_at}
 use Rattle.state_diagrams.proofs.choices.place_of.Goals as goal
 
 pub child-requires : goal.child-requires

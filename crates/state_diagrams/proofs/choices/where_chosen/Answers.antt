@@ -4,8 +4,8 @@ use Rattle.rsml_meaning.specs.Instances.{components}
 use Rattle.state_tree.proofs.Lists.{within_get}
 use Rattle.world_levels.specs.Spelling.{world_of}
 use Rattle.world_sums.specs.Tells.{Tells}
-use Rattle.state_choices.specs.Children.{has_child}
-use Rattle.state_choices.proofs.Activity.{chosen_at, chosen_never}
+use Rattle.rsml_ground.specs.Children.{has_child}
+use Rattle.rsml_ground.proofs.Activity.{chosen_at, chosen_never}
 use Rattle.state_diagrams.proofs.Told.{told_as}
 use Rattle.state_diagrams.proofs.choices.where_chosen.Goals as goal
 

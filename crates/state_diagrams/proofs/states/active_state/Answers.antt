@@ -9,8 +9,8 @@ use Rattle.bdd_core.specs.Diagram.{meaning}
 use Rattle.bdd_core.specs.Calls.{Represents}
 use Rattle.world_levels.specs.Spelling.{world_of}
 use Rattle.world_sums.specs.Tells.{Tells}
-use Rattle.state_choices.specs.Children.{has_child}
-use Rattle.state_choices.proofs.Activity.{top_active, around_before, same_active, both_active}
+use Rattle.rsml_ground.specs.Children.{has_child}
+use Rattle.rsml_ground.proofs.Activity.{top_active, around_before, same_active, both_active}
 use Rattle.state_diagrams.proofs.Told.{told_as, told_both, tells_keeps}
 use Rattle.state_diagrams.proofs.states.active_state.Goals as goal
 

@@ -3,7 +3,7 @@ use Rattle.std.specs.Option.{option_copied}
 use Rattle.rsml_syntax.specs.rules.Globals.{indices}
 use Rattle.rsml_meaning.specs.Words.{Each}
 use Rattle.rsml_meaning.specs.Interfaces.{receives_of}
-use Rattle.phrase_scopes.specs.Scoped.{ReceiveIsScoped}
+use Rattle.rsml_ground.specs.Scoped.{ReceiveIsScoped}
 use Rattle.interfaces.specs.Kept.{IsThere}
 use Rattle.interfaces.proofs.KeptLemmas.{there_of}
 use Rattle.interfaces.proofs.table.Table.add_declared.Goals as goal

@@ -1,4 +1,4 @@
-use Rattle.phrase_scopes.specs.Scoped.{ReceiveIsScoped}
+use Rattle.rsml_ground.specs.Scoped.{ReceiveIsScoped}
 use Rattle.rsml_meaning.specs.Interfaces.{receives_of}
 use Rattle.interfaces.proofs.TurnLemmas.{each_part}
 use Rattle.interfaces.proofs.table.Table.new.Goals as goal

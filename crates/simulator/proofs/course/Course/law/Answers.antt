@@ -1,6 +1,6 @@
 use Rattle.std.proofs.Common.{subst}
 use Rattle.rsml_meaning.specs.Certified.{Certified}
-use Rattle.rsml_scopes.specs.Scoped.{WellScoped}
+use Rattle.rsml_meaning.specs.Scoped.{WellScoped}
 use Rattle.simulator.specs.Simulation.{Simulation}
 use Rattle.simulator.proofs.course.Course.law.Goals as goal
 

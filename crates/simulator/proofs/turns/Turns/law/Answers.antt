@@ -1,7 +1,7 @@
 use Rattle.std.proofs.Common.{subst}
 use Rattle.rsml_meaning.specs.Certified.{Certified}
-use Rattle.rsml_scopes.specs.Scoped.{WellScoped}
-use Rattle.rsml_scopes.proofs.rules.Scoped.{rules_give_scopes}
+use Rattle.rsml_meaning.specs.Scoped.{WellScoped}
+use Rattle.rsml_meaning.proofs.rules.Scoped.{rules_give_scopes}
 use Rattle.simulator.specs.helpers.Turns.{Turning}
 use Rattle.simulator.proofs.turns.Turns.law.Goals as goal
 

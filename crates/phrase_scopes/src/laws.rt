@@ -1,7 +1,0 @@
-ghost use Rattle.phrase_scopes.specs.Laws.{RulesScopePhrases};
-
-/// In a specification that keeps the rules and limits what each phrase names is there: states and cells by their
-/// places, macros and functions by numbers before that of what names them.
-pub fn rules_scope_phrases()
-    ensures { RulesScopePhrases }
-{}

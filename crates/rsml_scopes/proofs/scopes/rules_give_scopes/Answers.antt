@@ -1,5 +1,0 @@
-use Rattle.rsml_scopes.proofs.rules.Scoped.{rules_give_scopes}
-use Rattle.rsml_scopes.proofs.scopes.rules_give_scopes.Goals as goal
-
-pub returns : goal.returns
-returns c = rules_give_scopes

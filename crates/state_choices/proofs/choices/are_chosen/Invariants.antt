@@ -1,6 +1,0 @@
-use Rattle.std.proofs.Common.{◌≡◌, true, take}
-use Rattle.state_choices.specs.Choices as spec
-use Rattle.state_choices.proofs.choices.are_chosen.Given as goal
-
-abbrev pub invariant-loop-choice : goal.invariant-loop-choice
-invariant-loop-choice l = spec.are_chosen l.chosen (take l.choice-index l.choices) ≡ true
