@@ -4,7 +4,7 @@ use Rattle.rsml_meaning.specs.RunLaws.{CertifiedIsDeterministic}
 use Rattle.rsml_meaning.proofs.Lowest.{lowest_lines_enable_one, sources_have_lowest_lines}
 use Rattle.rsml_meaning.proofs.Sends.{one_beside_case}
 use Rattle.rsml_meaning.proofs.Steps.{events_have_lengths}
-use Rattle.rsml_meaning.proofs.Values.{one_true_case}
+use Rattle.rsml_meaning.proofs.MessageValues.{one_true_case}
 use Rattle.rsml_meaning.proofs.Runs.{runs_end_in_time, event_files_have_one_run}
 use Rattle.rsml_meaning.proofs.rules.Scoped.{rules_give_scopes}
 

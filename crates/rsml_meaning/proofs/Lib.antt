@@ -16,7 +16,7 @@ pub mod Repeats
 pub mod Reported
 pub mod Same
 pub mod Stable
-mod Verdicts
+mod VerdictLines
 pub mod Ways
 mod WellFormed
 mod Written
@@ -27,7 +27,7 @@ pub mod Lists
 pub mod rules
 mod Apart
 mod Deterministic
-mod Examples
+mod RunExamples
 mod Latched
 mod Lines
 mod Longer
@@ -39,6 +39,6 @@ mod Sends
 mod Sources
 mod Steps
 mod Turns
-mod Values
+mod MessageValues
 mod Verdict
-mod Worlds
+mod WorldSteps

@@ -24,7 +24,7 @@ use Rattle.rsml_meaning.proofs.Apart.{one_outcome, same_children}
 use Rattle.rsml_meaning.proofs.WorldSteps.{micro_steps_exist}
 use Rattle.rsml_meaning.proofs.Lines.{taken_apart}
 use Rattle.rsml_meaning.proofs.Sends.{one_case}
-use Rattle.rsml_meaning.proofs.Values.{one_value, one_true_case}
+use Rattle.rsml_meaning.proofs.MessageValues.{one_value, one_true_case}
 use Rattle.rsml_meaning.proofs.Longer.{next_longer}
 
 learn_keeps : (d : Decl) (v : View) → (learn v d).names ≡ v.names
