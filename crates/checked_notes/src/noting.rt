@@ -5,7 +5,7 @@ ghost use Rattle.source_notes.specs.Comments.{AreComments};
 
 use crate::chains::chains_of;
 use elaborate::{Machine, elaborate};
-use enabled_notes::tell_enabled;
+use crate::tell_enabled;
 use event_chains::Chains;
 use finding_notes::tell_findings;
 use finding_texts::Verdict;

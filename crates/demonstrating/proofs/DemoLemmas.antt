@@ -11,10 +11,10 @@ use Rattle.rsml_meaning.specs.EventFiles.{lines_of, program_limits, IsWellFormed
 use Rattle.rsml_meaning.specs.EventLines.{Bytes}
 use Rattle.rsml_meaning.specs.Runs.{IsRun}
 use Rattle.rsml_base.specs.declared.no_memory.NoMemory.{NoMemory}
-use Rattle.demo_plant.specs.Events.{event_text}
-use Rattle.demo_plant.specs.Laws.{IsDemo, DemoEventsAreWellFormed}
-use Rattle.demo_plant.specs.Plant.{plant}
-use Rattle.demo_plant.specs.Text.{text}
+use Rattle.demonstrating.specs.Events.{event_text}
+use Rattle.demonstrating.specs.Laws.{IsDemo, DemoEventsAreWellFormed}
+use Rattle.demonstrating.specs.Plant.{plant}
+use Rattle.demonstrating.specs.Text.{text}
 use Rattle.run_counts.specs.Counts.{HasCounts}
 use Rattle.run_counts.specs.declared.counts.Counts.{Counts}
 use Rattle.judging.specs.Headline.{IsRightReport}

@@ -15,9 +15,9 @@ use Rattle.rsml_meaning.specs.Runs.{Reaction}
 use Rattle.rsml_meaning.specs.Texts.{text_line}
 use Rattle.rsml_meaning.specs.ScopeLaws.{RulesGiveScopes}
 use Rattle.rsml_base.specs.declared.no_memory.NoMemory.{NoMemory}
-use Rattle.demo_plant.specs.Events.{event_text}
-use Rattle.demo_plant.specs.Laws.{IsDemo}
-use Rattle.demo_plant.specs.Plant.{plant}
+use Rattle.demonstrating.specs.Events.{event_text}
+use Rattle.demonstrating.specs.Laws.{IsDemo}
+use Rattle.demonstrating.specs.Plant.{plant}
 use Rattle.run_counts.specs.Counts.{counts_of}
 use Rattle.run_counts.specs.declared.counts.Counts.{Counts}
 use Rattle.rsml_meaning.specs.EventLines.{Bytes}

@@ -6,9 +6,9 @@ use Rattle.rsml_meaning.specs.Groups.{groups}
 use Rattle.rsml_meaning.specs.Report.{Answers, AreRight, externals, chain_line, report_text}
 use Rattle.rsml_meaning.specs.Runs.{Reaction, IsRun}
 use Rattle.rsml_meaning.specs.Texts.{text_line}
-use Rattle.demo_plant.specs.Events.{event_text}
-use Rattle.demo_plant.specs.Laws.{IsDemo}
-use Rattle.demo_plant.specs.Plant.{plant}
+use Rattle.demonstrating.specs.Events.{event_text}
+use Rattle.demonstrating.specs.Laws.{IsDemo}
+use Rattle.demonstrating.specs.Plant.{plant}
 use Rattle.run_counts.specs.Counts.{counts_of}
 use Rattle.run_counts.specs.declared.counts.Counts.{Counts}
 use Rattle.rsml_meaning.specs.EventLines.{Bytes}

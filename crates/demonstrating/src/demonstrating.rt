@@ -1,13 +1,13 @@
 ghost use Rattle.std.specs.Prelude.{◌≡◌, ◌++◌, ◌≤◌, IfOk, OnOk, decimal, drop, length, string_bytes};
 ghost use Rattle.rsml_meaning.specs.Texts.{text_line};
-ghost use Rattle.demo_plant.specs.Laws.{IsDemo};
-ghost use Rattle.demo_plant.specs.Text.{text};
+ghost use Rattle.demonstrating.specs.Laws.{IsDemo};
+ghost use Rattle.demonstrating.specs.Text.{text};
 ghost use Rattle.judging.specs.Judgements.{IsJudgement};
 ghost use Rattle.demonstrating.specs.Steps as steps;
 ghost use Rattle.demonstrating.specs.Summary.{AreCountsOf, AreEventsOf, IsPlantOf, IsReportOf, IsSummary, count_lines, demo_line};
 
 use answering::{Status, finish};
-use demo_plant::{demo_events_are_well_formed, demos_are_certified, generate, generate_events};
+use crate::{demo_events_are_well_formed, demos_are_certified, generate, generate_events};
 use elaborate::{Machine, elaborate};
 use judging::{Judgement, judge};
 use rsml_meaning::last_lines_tell_the_verdict;

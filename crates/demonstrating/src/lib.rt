@@ -2,5 +2,11 @@
 #![tactic(auto)]
 
 mod demonstrating;
+mod events;
+mod laws;
+mod text;
 
 pub use demonstrating::demo;
+pub use events::generate_events;
+pub use laws::{demo_events_are_well_formed, demos_are_certified};
+pub use text::generate;

@@ -3,7 +3,7 @@
 use crate::holdings::put_padded;
 use and_or_tables::{GroundRow, Truths};
 use ground_groups::Member;
-use group_mends::{TruthTable, fails, is_true};
+use crate::{TruthTable, fails, is_true};
 use rsml_base::NoMemory;
 use rsml_ground::GroundGuard;
 use rsml_syntax::Cell;

@@ -1,15 +1,23 @@
 //! What is found of the groups of a machine, for a person: comment lines with tables as they are in a world.
 #![tactic(auto)]
 
+mod diagrams;
 mod drawing;
 mod finding;
 mod heads;
 mod holdings;
+mod members;
 mod mending;
 mod reads;
 mod sharing;
 mod shown;
+mod soundness;
 mod telling;
+mod truth_table;
 mod truths;
 
+pub use diagrams::Added;
+pub use members::{member_at, member_count};
+pub use soundness::{Change, columns_stay, is_sound_with};
 pub use telling::tell_findings;
+pub use truth_table::{TruthTable, cell_at, fails, is_true, rows_of};

@@ -7,7 +7,7 @@ use and_or_tables::{GroundRow, Truths};
 use elaborate::Machine;
 use finding_texts::Verdict;
 use ground_groups::Member;
-use group_mends::{
+use crate::{
     Added, Change, TruthTable, cell_at, columns_stay, is_sound_with, is_true, member_count, rows_of,
 };
 use guard_encode::Encoder;

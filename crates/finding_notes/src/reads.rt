@@ -3,7 +3,7 @@
 use and_or_tables::GroundRow;
 use elaborate::Machine;
 use ground_groups::GroupKind;
-use group_mends::{member_at, member_count, rows_of};
+use crate::{member_at, member_count, rows_of};
 use rsml_base::NoMemory;
 use rsml_ground::{Definition, GroundCase, GroundOperand, GroundPhrase, GroundSum};
 use state_tree::Tree;

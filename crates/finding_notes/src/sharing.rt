@@ -3,7 +3,7 @@
 use elaborate::Machine;
 use ground_groups::Member;
 use ground_members::{SharedSendCase, SharedTransition};
-use group_mends::{member_at, member_count};
+use crate::{member_at, member_count};
 use written_members::{Scene, written_at};
 
 /// The place of a member in its component, send or function.

@@ -3,7 +3,7 @@
 use crate::finding::Finding;
 use elaborate::Machine;
 use ground_groups::Member;
-use group_mends::{TruthTable, member_at, member_count, rows_of};
+use crate::{TruthTable, member_at, member_count, rows_of};
 use written_members::guard_of;
 
 /// A member at a place of a group, and how many cells of its guard fail at least.

@@ -13,7 +13,7 @@ use Rattle.spelled_numbers.specs.declared.slot.Slot.TheVariants.{Part, Free}
 use Rattle.spelled_numbers.specs.Spelling.{number}
 use Rattle.spelled_numbers.specs.Bits.{bits_of}
 use Rattle.world_levels.specs.Spelling.{WorldLevels, cell_part, numbers_from, world_of}
-use Rattle.world_sums.specs.Tells as exact
+use Rattle.phrase_diagrams.specs.Tells as exact
 use Rattle.elaborate.specs.Machine.{GroundMachine}
 use Rattle.free_levels.specs.Values.{is_in}
 use Rattle.keyed_levels.specs.Keyed.{KeyedWorlds}

@@ -7,7 +7,7 @@ use Rattle.rsml_ground.specs.Truths.{Grounded, is_active, truths_in, with_next}
 use Rattle.bdd_core.specs.Diagram.{Diagram}
 use Rattle.bdd_core.specs.Calls as arena
 use Rattle.world_levels.specs.Spelling.{WorldLevels}
-use Rattle.world_sums.specs.Tells as exact
+use Rattle.phrase_diagrams.specs.Tells as exact
 use Rattle.phrase_diagrams.specs.Diagrams.{truths_at}
 use Rattle.elaborate.specs.Machine.{GroundMachine}
 use Rattle.keyed_levels.specs.Keyed.{KeyedWorlds, AreKeyed, Lawful, Tells, world_at}

@@ -22,7 +22,7 @@ use Rattle.spelled_numbers.proofs.SpellingLemmas.{within}
 use Rattle.world_levels.specs.Spelling.{above_least, cell_part, part_number, spelled_world}
 use Rattle.world_levels.specs.Laws.{EachWorldIsSpelled}
 use Rattle.world_levels.proofs.NumberLemmas.{above_at}
-use Rattle.world_sums.proofs.WorldLemmas.{cell_at}
+use Rattle.phrase_diagrams.proofs.WorldLemmas.{cell_at}
 use Rattle.macros.proofs.SmallCells.{world_cells}
 use Rattle.keyed_levels.specs.Keyed.{KeyedWorlds, AreKeyed}
 use Rattle.guard_encode.specs.Spelling.{IsNumber, has_value, is_spelled}

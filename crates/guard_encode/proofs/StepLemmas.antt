@@ -9,7 +9,7 @@ use Rattle.bdd_core.specs.Diagram.{Diagram, meaning}
 use Rattle.bdd_core.specs.Calls as arena
 use Rattle.bdd_core.specs.Calls.{Represents}
 use Rattle.world_levels.specs.Spelling.{WorldLevels}
-use Rattle.world_sums.specs.Tells as exact
+use Rattle.phrase_diagrams.specs.Tells as exact
 use Rattle.phrase_diagrams.specs.Diagrams.{truths_at}
 use Rattle.elaborate.specs.Machine.{GroundMachine}
 use Rattle.keyed_levels.specs.Keyed.{KeyedWorlds, Lawful, world_at}

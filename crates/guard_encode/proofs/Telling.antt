@@ -6,7 +6,7 @@ use Rattle.rsml_syntax.specs.declared.world.World.{World}
 use Rattle.bdd_core.specs.Diagram.{Diagram, IsRef, meaning}
 use Rattle.bdd_core.specs.Calls.{Keeps, Represents}
 use Rattle.world_levels.specs.Spelling.{WorldLevels, world_of}
-use Rattle.world_sums.specs.Tells as exact
+use Rattle.phrase_diagrams.specs.Tells as exact
 use Rattle.phrase_diagrams.specs.Diagrams.{truths_at}
 use Rattle.keyed_levels.specs.Keyed.{KeyedWorlds, Tells}
 

@@ -17,7 +17,7 @@ use rsml_base::NoMemory;
 use rsml_ground::GroundCase;
 use std::alloc::Global;
 use world_levels::Layout;
-use world_sums::compare_number;
+use phrase_diagrams::compare_number;
 
 /// Where some case has a true guard and a value that passes the test.
 pub fn some_case(

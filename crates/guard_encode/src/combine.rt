@@ -82,7 +82,7 @@ impl<'m, 'a> Encoder<'m, 'a> {
         ensures keeps { Keeps self.old self.new }
         ensures answer { IfOk result (Tells self.new (λ w. slice_index_or w.choices component 0 == place)) }
     {
-        world_sums::choice(
+        phrase_diagrams::choice(
             &mut self.arena,
             &mut self.sums,
             self.levels.layout(),
@@ -97,7 +97,7 @@ impl<'m, 'a> Encoder<'m, 'a> {
         ensures keeps { Keeps self.old self.new }
         ensures answer { IfOk result (Tells self.new (λ w. int_le (slice_index_or w.cells cell (pos 0)) number)) }
     {
-        world_sums::at_most(
+        phrase_diagrams::at_most(
             &mut self.arena,
             &mut self.sums,
             self.levels.layout(),

@@ -13,7 +13,7 @@ use linear_bits::SumTable;
 use rsml_base::NoMemory;
 use rsml_ground::GroundGuard;
 use settled_worlds::ExactKeys;
-use state_diagrams::active_states;
+use phrase_diagrams::active_states;
 use std::alloc::Global;
 use std::marker::Model;
 

@@ -97,7 +97,7 @@ impl<'m, 'a> Encoder<'m, 'a> {
         ensures keeps { Keeps self.old self.new }
         ensures answer { IfOk result (Represents self.new.diagram (is_at_most (worlds_of self.old) cell number)) }
     {
-        world_sums::at_most(
+        phrase_diagrams::at_most(
             &mut self.arena,
             &mut self.sums,
             self.levels.layout(),

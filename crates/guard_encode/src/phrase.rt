@@ -27,7 +27,7 @@ use rsml_ground::{Definition, GroundPhrase, GroundSum};
 use rsml_syntax::Relation;
 use std::alloc::Global;
 use world_levels::Layout;
-use world_sums::compare;
+use phrase_diagrams::compare;
 
 /// The diagram of the next phrase. Of comparisons that are alike the first may have a level.
 pub fn next(

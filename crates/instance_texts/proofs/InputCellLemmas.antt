@@ -7,8 +7,8 @@ use Rattle.rsml_syntax.specs.declared.syntax.Decl.TheVariants as decl
 use Rattle.rsml_syntax.specs.text.Names.{Name, is_in}
 use Rattle.rsml_syntax.specs.rules.Globals.{Globals, indices}
 use Rattle.rsml_syntax.specs.limits.Previous.{names_previous}
-use Rattle.previous_names.specs.PreviousNames.{previous_names}
-use Rattle.previous_names.proofs.NamedAfter.{previous_is}
+use Rattle.rsml_names.specs.PreviousNames.{previous_names}
+use Rattle.rsml_names.proofs.NamedAfter.{previous_is}
 use Rattle.rsml_meaning.specs.Words.{at}
 use Rattle.rsml_meaning.specs.Instances.{globals_of}
 use Rattle.rsml_meaning.specs.Cells.{InputCell, new_cell, type_named, initial_number, cells_of, own_cells, as_previous, previous_cells, cells}

@@ -11,7 +11,7 @@ use crate::cell_ref::CellRef;
 use crate::listed::Listed;
 use crate::listings::listing;
 use crate::sorts::Sort;
-use previous_names::previous_names;
+use rsml_names::previous_names;
 use rsml_names::{Globals, NameList, name_of};
 use rsml_syntax::{Decl, NoMemory, Spec};
 use std::alloc::Global;

@@ -9,3 +9,5 @@ pub mod OneTerm
 pub mod SmallCells
 pub mod Values
 mod Means
+pub mod AskedLemmas
+pub mod StateLemmas

@@ -3,3 +3,5 @@ pub mod Known
 pub mod Named
 pub mod Pairs
 pub mod Tables
+pub mod Asked
+pub mod StatePhrases

@@ -4,6 +4,7 @@
 
 mod activity;
 mod ask;
+mod asked;
 mod cases;
 mod fast;
 mod guards;
@@ -12,8 +13,11 @@ mod memo;
 mod pairs;
 mod phrases;
 mod relation;
+mod state_phrases;
 mod sums;
 
+pub use asked::{Asked, Literal};
 pub use guards::FastGuard;
 pub use macros::Macros;
 pub use memo::Memo;
+pub use state_phrases::{StatePhrase, state_phrase};

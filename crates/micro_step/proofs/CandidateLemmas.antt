@@ -26,8 +26,8 @@ use Rattle.elaborate.specs.Machine.{GroundMachine, StandsFor}
 use Rattle.elaborate.specs.OnEvents.{places_of}
 use Rattle.elaborate.specs.Enabled.{is_enabled, is_sending}
 use Rattle.micro_step.specs.declared.candidates.Candidate.{Candidate}
-use Rattle.prepared_phrases.specs.declared.asked.Asked.{Asked}
-use Rattle.prepared_phrases.specs.Asked.{AsksFor}
+use Rattle.macros.specs.declared.asked.Asked.{Asked}
+use Rattle.macros.specs.Asked.{AsksFor}
 use Rattle.micro_step.specs.Candidates.{Fits, HasGuardOf, TellsOf, AreFor, AreOnEvents, is_met}
 use Rattle.rsml_ground.specs.Choices.{AreOfComponents, TellActivity, are_chosen}
 use Rattle.micro_step.specs.Places.{passes}

@@ -10,8 +10,8 @@ use Rattle.elaborate.specs.Machine.{GroundMachine}
 use Rattle.elaborate.specs.OnEvents.{transitions_on, cases_on}
 use Rattle.elaborate.specs.Enabled.{is_enabled, is_sending}
 use Rattle.micro_step.specs.declared.candidates.Candidate.{Candidate}
-use Rattle.prepared_phrases.specs.declared.asked.Asked.{Asked}
-use Rattle.prepared_phrases.specs.Asked.{AskedBelow, asked_truth}
+use Rattle.macros.specs.declared.asked.Asked.{Asked}
+use Rattle.macros.specs.Asked.{AskedBelow, asked_truth}
 use Rattle.rsml_ground.specs.Choices.{AreOfComponents, are_chosen}
 use Rattle.micro_step.specs.Places.{passes}
 

@@ -21,10 +21,10 @@ use Rattle.elaborate.specs.Machine.{GroundMachine}
 use Rattle.elaborate.specs.Enabled.{is_enabled, is_sending}
 use Rattle.micro_step.specs.declared.candidates.Candidate.{Candidate}
 use Rattle.micro_step.specs.declared.events.Events.{Events}
-use Rattle.prepared_phrases.specs.declared.state_phrases.StatePhrase.{StatePhrase}
+use Rattle.macros.specs.declared.state_phrases.StatePhrase.{StatePhrase}
 use Rattle.micro_step.specs.Candidates.{AreOfTransitions, AreOfCases}
 use Rattle.micro_step.specs.Sets.{has}
-use Rattle.prepared_phrases.specs.StatePhrases.{IsStatePhrase}
+use Rattle.macros.specs.StatePhrases.{IsStatePhrase}
 use Rattle.micro_step.specs.Rising.{Numbers, among}
 use Rattle.micro_step.specs.Places.{passes, places_where}
 

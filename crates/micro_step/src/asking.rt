@@ -4,11 +4,11 @@ ghost use Rattle.rsml_ground.specs.Truths.{guard_truth, truths_in};
 ghost use Rattle.macros.specs.Guards.{GuardBelow};
 ghost use Rattle.macros.specs.Known.{Knows};
 ghost use Rattle.and_or_tables.specs.Ground.{known};
-ghost use Rattle.prepared_phrases.specs.Asked.{AskedBelow, ColumnBelow, asked_truth, column_truth, columns_truth, literal_truth};
+ghost use Rattle.macros.specs.Asked.{AskedBelow, ColumnBelow, asked_truth, column_truth, columns_truth, literal_truth};
 
 use elaborate::Machine;
 use macros::{FastGuard, Memo};
-use prepared_phrases::{Asked, Literal};
+use macros::{Asked, Literal};
 use rsml_syntax::World;
 
 /// The truth of a guard in the world.

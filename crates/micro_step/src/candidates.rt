@@ -3,7 +3,7 @@ ghost use Rattle.std.specs.List.{list_any};
 ghost use Rattle.rsml_meaning.specs.Worlds.{IsWorld};
 ghost use Rattle.rsml_ground.specs.Truths.{truths_in};
 ghost use Rattle.macros.specs.Known.{Knows};
-ghost use Rattle.prepared_phrases.specs.Asked.{asked_truth};
+ghost use Rattle.macros.specs.Asked.{asked_truth};
 ghost use Rattle.micro_step.specs.Candidates as spec;
 ghost use Rattle.micro_step.specs.Candidates.{Fits, KnowsGuards};
 ghost use Rattle.micro_step.specs.Rising.{AreRising, among};
@@ -12,7 +12,7 @@ use crate::asking::is_true;
 use crate::rising::Rising;
 use elaborate::Machine;
 use macros::Memo;
-use prepared_phrases::Asked;
+use macros::Asked;
 use rsml_syntax::World;
 use rsml_ground::{Choice, are_chosen};
 

@@ -1,12 +1,12 @@
 ghost use Rattle.std.specs.Prelude.{◌≡◌, ◌<◌, All, length, map};
 ghost use Rattle.rsml_meaning.specs.Worlds.{IsWorld};
 ghost use Rattle.macros.specs.Known.{Knows};
-ghost use Rattle.prepared_phrases.specs.StatePhrases.{IsStatePhrase, some_chosen};
+ghost use Rattle.macros.specs.StatePhrases.{IsStatePhrase, some_chosen};
 
 use crate::events::Events;
 use elaborate::Machine;
 use macros::Memo;
-use prepared_phrases::StatePhrase;
+use macros::StatePhrase;
 use rsml_syntax::World;
 use rsml_ground::{Choice, are_chosen};
 

@@ -1,11 +1,11 @@
 ghost use Rattle.std.specs.Prelude.{◌<◌, All, IfOk, OnOk, length, map};
 ghost use Rattle.rsml_meaning.specs.Instances.{events};
-ghost use Rattle.prepared_phrases.specs.StatePhrases.{IsStatePhrase};
+ghost use Rattle.macros.specs.StatePhrases.{IsStatePhrase};
 
 use and_or_tables::GroundRow;
 use elaborate::Machine;
 use ground_members::{GroundAnswer, GroundValue};
-use prepared_phrases::{StatePhrase, state_phrase};
+use macros::{StatePhrase, state_phrase};
 use rsml_ground::{Definition, GroundCase, GroundGuard, GroundPhrase};
 use rsml_syntax::NoMemory;
 use std::alloc::Global;

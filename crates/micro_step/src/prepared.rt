@@ -7,7 +7,7 @@ ghost use Rattle.micro_step.specs.Candidates.{AreFor, AreOfCases, AreOfTransitio
 
 use crate::candidates::Candidate;
 use elaborate::Machine;
-use prepared_phrases::Asked;
+use macros::Asked;
 use rsml_syntax::NoMemory;
 use rsml_ground::choices_around;
 use std::alloc::Global;

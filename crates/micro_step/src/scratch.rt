@@ -21,7 +21,7 @@ use elaborate::Machine;
 use ground_groups::Member;
 use ground_members::GroundAnswer;
 use macros::Memo;
-use prepared_phrases::StatePhrase;
+use macros::StatePhrase;
 use rsml_syntax::{NoMemory, World};
 use std::alloc::Global;
 use std::marker::Model;

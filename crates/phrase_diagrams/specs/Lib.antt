@@ -1,1 +1,5 @@
 pub mod Diagrams
+pub mod Tells
+pub mod Signs
+pub mod Terms
+pub mod Active

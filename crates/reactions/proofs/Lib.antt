@@ -2,3 +2,9 @@ pub mod ChainBounds
 pub mod RaisedLemmas
 pub mod SettledLemmas
 pub mod WrittenLemmas
+pub mod EventTexts
+pub mod FieldTexts
+pub mod FirstTexts
+pub mod ItemTexts
+pub mod RoundTexts
+pub mod SendTexts

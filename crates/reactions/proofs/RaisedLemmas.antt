@@ -15,7 +15,7 @@ use Rattle.micro_step.specs.declared.events.Events.{Events}
 use Rattle.micro_step.specs.Micros.{AreEvents, events_in}
 use Rattle.micro_step.specs.Places.{items_where}
 use Rattle.micro_step.specs.Sets.{has}
-use Rattle.trace_texts.proofs.EventTexts.{all_first, next_first}
+use Rattle.reactions.proofs.EventTexts.{all_first, next_first}
 
 -- the receive of a number, and its event
 pub raised_at : (s : Spec) (k n : ℕ) → k < length (receives s) → IfSome (slice_get (receives s) k) (λ x. place_in (events s) x.raised ≡ Some n)

@@ -12,8 +12,8 @@ use Rattle.micro_step.specs.Micros.{AreEvents, IsMicro, events_in}
 use Rattle.micro_step.specs.Numbers.{Kept, of_cases}
 use Rattle.micro_step.specs.Places.{items_where}
 use Rattle.micro_step.specs.Sets.{has}
-use Rattle.trace_texts.specs.Rounds.{IsRoundOf}
-use Rattle.trace_texts.proofs.EventTexts.{none_at_all}
+use Rattle.reactions.specs.Rounds.{IsRoundOf}
+use Rattle.reactions.proofs.EventTexts.{none_at_all}
 use Rattle.reactions.specs.Stepping.{InWorld, LastRound, RoundIsDone, WasRound, last_of}
 
 -- a micro-step of which a machine kept the numbers is a round

@@ -21,7 +21,7 @@ use rsml_syntax::{Checked, NoMemory, World};
 use std::alloc::Global;
 use std::marker::Model;
 use text_writer::Writer;
-use trace_texts::Traces;
+use crate::Traces;
 
 /// A machine that runs: the events that are present, and what it keeps for its rounds. The world that it keeps is the one before the last
 /// round, so that it can be asked what was true there: what that round moved is entered when the next one begins, and so is the message

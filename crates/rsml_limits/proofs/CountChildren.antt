@@ -8,7 +8,7 @@ use Rattle.rsml_syntax.specs.declared.syntax.Body.{One, All}
 use Rattle.rsml_syntax.specs.text.Names.{Name, is_in}
 use Rattle.rsml_syntax.specs.limits.Limits.{adds}
 use Rattle.rsml_syntax.specs.grammar.Parts.{Part, Opens, Closes, State, placed, nearer, inside, child_parts}
-use Rattle.previous_names.proofs.Children.{inside_all, inside_one}
+use Rattle.rsml_names.proofs.PreviousChildren.{inside_all, inside_one}
 use Rattle.rsml_limits.specs.declared.counts.counted.Counted.{Counted}
 use Rattle.rsml_limits.specs.declared.counts.counted.Counted.TheVariants as kinds
 use Rattle.rsml_limits.specs.counts.Counting.{CountedNames, counted, state_count, child_count}

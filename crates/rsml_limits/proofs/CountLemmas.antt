@@ -12,9 +12,9 @@ use Rattle.rsml_limits.specs.declared.counts.counted.Counted.{Counted}
 use Rattle.rsml_limits.specs.declared.counts.counted.Counted.TheVariants as kinds
 use Rattle.rsml_limits.specs.counts.Counting.{CountedNames, counted_names, count_of, cells_among}
 use Rattle.rsml_limits.specs.counts.CountLimits.{limit_of}
-use Rattle.previous_names.specs.PreviousNames.{previous_names}
+use Rattle.rsml_names.specs.PreviousNames.{previous_names}
 use Rattle.rsml_limits.proofs.Adding.{adds_same}
-use Rattle.previous_names.proofs.NamedAfter.{previous_is}
+use Rattle.rsml_names.proofs.NamedAfter.{previous_is}
 
 cells_same : (s : Spec) (part : Part) → cells_among (previous_names s) (globals s.decls) part ≡ cells_at s (globals s.decls) part
 cells_same s (Declared place (decl.Input name size kind initial)) = ap (λ (b : Bool). many (globals s.decls) size * (if b then 2 else 1)) (previous_is s name)

@@ -14,7 +14,7 @@ use Rattle.rsml_syntax.specs.text.Names.{Name, is_in}
 use Rattle.rsml_syntax.specs.rules.Globals.{Globals, names_of}
 use Rattle.rsml_syntax.specs.grammar.Parts.{Part, Declared, Opens, Closes, placed, nearer, declared, inside, child_parts, transitions_of, top_of, parts}
 use Rattle.rsml_syntax.specs.limits.Comparisons.{comparisons}
-use Rattle.previous_names.proofs.Children.{inside_all, inside_one}
+use Rattle.rsml_names.proofs.PreviousChildren.{inside_all, inside_one}
 use Rattle.rsml_limits.specs.comparisons.Searched.{Searched, searched, transition_comparisons, child_comparisons}
 use Rattle.rsml_limits.proofs.AskGathering.{searched_append}
 

@@ -3,3 +3,9 @@ pub mod Children
 pub mod Gathering
 pub mod KinLemmas
 pub mod NamesLemmas
+pub mod PreviousChildren
+pub mod PreviousGathering
+pub mod GatheringRules
+pub mod NamedAfter
+pub mod SumsInside
+pub mod SumsOfParts

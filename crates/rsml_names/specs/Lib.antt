@@ -1,2 +1,3 @@
 pub mod Kin
 pub mod Bound
+pub mod PreviousNames

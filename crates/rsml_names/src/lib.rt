@@ -8,6 +8,7 @@ mod families;
 mod globals;
 mod name_list;
 mod name_tables;
+mod previous;
 mod scope;
 mod variables;
 
@@ -17,5 +18,6 @@ pub use families::{Child, Families};
 pub use globals::{Globals, Known};
 pub use name_list::NameList;
 pub use name_tables::NameTables;
+pub use previous::previous_names;
 pub use scope::{Scope, nearer, scope_at};
 pub use variables::Variables;

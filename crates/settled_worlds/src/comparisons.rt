@@ -12,7 +12,7 @@ use linear_bits::SumTable;
 use rsml_base::NoMemory;
 use rsml_ground::GroundPhrase;
 use std::alloc::Global;
-use world_sums::compare;
+use phrase_diagrams::compare;
 
 /// The exact diagram of the key at a place. It is made where it has not been.
 pub(crate) fn exact_of(

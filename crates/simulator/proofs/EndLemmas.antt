@@ -9,7 +9,7 @@ use Rattle.rsml_meaning.specs.EventFiles.{Limits, FileFault, long_line, broken_l
 use Rattle.rsml_meaning.specs.Texts.{text_line}
 use Rattle.rsml_meaning.specs.Trace.{trace_text}
 use Rattle.text_writer.specs.Writes.{WriterState, Writes}
-use Rattle.buffered_sink.specs.Buffering.{Finishes, begins}
+use Rattle.text_writer.specs.Buffering.{Finishes, begins}
 use Rattle.simulator.specs.declared.sim_end.SimEnd.{SimEnd}
 use Rattle.simulator.specs.declared.sim_end.SimEnd.TheVariants as end
 use Rattle.simulator.specs.Outputs.{Output, done, faulty, ReadOutput, fault_line, read_line, rule_number}

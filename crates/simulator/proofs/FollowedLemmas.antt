@@ -18,7 +18,7 @@ use Rattle.text_writer.proofs.WritingLemmas.{alike}
 use Rattle.event_file.specs.Reading.{Reading, Fits, lines_ahead, taken}
 use Rattle.event_file.proofs.Splits.{split}
 use Rattle.event_lines.specs.Told.{rule_of}
-use Rattle.buffered_sink.specs.Buffering.{Flushes}
+use Rattle.text_writer.specs.Buffering.{Flushes}
 use Rattle.simulator.specs.declared.sim_end.SimEnd.{SimEnd}
 use Rattle.simulator.specs.declared.sim_end.SimEnd.TheVariants as end
 use Rattle.simulator.specs.declared.upcoming.Upcoming.{Upcoming}

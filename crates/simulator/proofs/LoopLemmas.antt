@@ -9,7 +9,7 @@ use Rattle.rsml_meaning.specs.Scoped.{WellScoped}
 use Rattle.rsml_meaning.specs.RunLaws.{LinesHaveOneRun}
 use Rattle.text_writer.specs.Writes.{WriterState}
 use Rattle.event_file.specs.Reading.{taken}
-use Rattle.buffered_sink.specs.Buffering.{Flushes}
+use Rattle.text_writer.specs.Buffering.{Flushes}
 use Rattle.simulator.specs.declared.sim_end.SimEnd.TheVariants as end
 use Rattle.simulator.specs.declared.upcoming.Upcoming.{Upcoming}
 use Rattle.simulator.specs.declared.upcoming.Upcoming.TheVariants as upcoming

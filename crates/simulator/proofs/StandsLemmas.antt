@@ -6,7 +6,7 @@ use Rattle.rsml_io.specs.Counts.{Rose}
 use Rattle.rsml_io.specs.Writing.{appended}
 use Rattle.text_writer.specs.Writes.{WriterState, Writes}
 use Rattle.text_writer.proofs.WritingLemmas.{appended_both, still}
-use Rattle.buffered_sink.specs.Buffering.{Flushes}
+use Rattle.text_writer.specs.Buffering.{Flushes}
 use Rattle.simulator.specs.helpers.Progress.{Stands, Counted}
 
 not_both : (b : Bool) → b ≡ true → b ≡ false → ⊥

@@ -16,7 +16,7 @@ use crate::following::follow_all;
 use crate::last_line::put_last_line;
 use crate::sim_end::SimEnd;
 use crate::upcoming::Upcoming;
-use buffered_sink::{Buffer, BufferedSink};
+use text_writer::{Buffer, BufferedSink};
 use elaborate::Machine;
 use event_file::Limits;
 use ground_groups::Member;

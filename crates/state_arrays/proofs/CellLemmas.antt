@@ -10,8 +10,8 @@ use Rattle.rsml_syntax.specs.declared.syntax.Decl.TheVariants as decl
 use Rattle.rsml_syntax.specs.text.Names.{Name}
 use Rattle.rsml_syntax.specs.rules.Globals.{indices}
 use Rattle.rsml_syntax.specs.limits.Previous.{names_previous}
-use Rattle.previous_names.specs.PreviousNames.{previous_names}
-use Rattle.previous_names.proofs.NamedAfter.{previous_is}
+use Rattle.rsml_names.specs.PreviousNames.{previous_names}
+use Rattle.rsml_names.proofs.NamedAfter.{previous_is}
 use Rattle.rsml_meaning.specs.Words.{Instance, at, same_instance, place_in, Each}
 use Rattle.rsml_meaning.specs.Instances.{globals_of, instances}
 use Rattle.rsml_meaning.specs.Cells.{InputCell, InputType, type_named, initial_number, new_cell, cells_of, own_cells, as_previous, previous_cells}

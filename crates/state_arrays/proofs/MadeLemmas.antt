@@ -8,7 +8,7 @@ use Rattle.rsml_syntax.specs.declared.syntax.Decl.TheVariants as decl
 use Rattle.rsml_syntax.specs.limits.Checked.{IsChecked}
 use Rattle.rsml_syntax.specs.text.Names.{Name, is_in}
 use Rattle.rsml_syntax.specs.rules.Globals.{Globals, globals, name_of, indices}
-use Rattle.previous_names.specs.PreviousNames.{previous_names}
+use Rattle.rsml_names.specs.PreviousNames.{previous_names}
 use Rattle.rsml_syntax.specs.rules.Rules.{broken_rule}
 use Rattle.rsml_meaning.specs.Words.{Instance}
 use Rattle.rsml_meaning.specs.Instances.{State, globals_of, instances, events_of, states}

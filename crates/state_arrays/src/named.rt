@@ -1,14 +1,14 @@
 ghost use Rattle.std.specs.Prelude.{◌≡◌, IfOk, flat_map};
 ghost use Rattle.rsml_meaning.specs.Instances as instances;
 ghost use Rattle.rsml_meaning.specs.Interfaces.{sends_of};
-ghost use Rattle.previous_names.specs.PreviousNames as after;
+ghost use Rattle.rsml_names.specs.PreviousNames as after;
 ghost use Rattle.state_arrays.specs.Made.{AreArrays, inputs_of, previous_of, definitions_made, receives_made};
 
 use crate::declared::events;
 use crate::input_names::InputNames;
 use crate::instances::Instances;
 use crate::interface_names::InterfaceNames;
-use previous_names::previous_names;
+use rsml_names::previous_names;
 use rsml_names::Globals;
 use rsml_syntax::{NoMemory, Spec};
 use std::alloc::Global;

@@ -1,1 +1,5 @@
 pub mod WritingLemmas
+pub mod Finished
+pub mod Growth
+pub mod Targets
+pub mod Waiting

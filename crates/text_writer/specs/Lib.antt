@@ -1,3 +1,5 @@
 pub mod DraftState
 pub mod Laws
 pub mod Writes
+pub mod Buffering
+pub mod Parts

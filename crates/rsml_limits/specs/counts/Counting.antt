@@ -17,7 +17,7 @@ use Rattle.rsml_syntax.specs.grammar.Parts.{Part, Declared, Opens, Closes, State
 use Rattle.rsml_syntax.specs.limits.Limits.{adds, ground_rows, states_at, transitions_at, events_at, definitions_at, rows_at, shown}
 use Rattle.rsml_limits.specs.declared.counts.counted.Counted.{Counted}
 use Rattle.rsml_limits.specs.declared.counts.counted.Counted.TheVariants as kinds
-use Rattle.previous_names.specs.PreviousNames.{previous_names}
+use Rattle.rsml_names.specs.PreviousNames.{previous_names}
 
 -- where memory is not refused, the count that is shown of this number
 abbrev pub Shows : Result ℕ NoMemory → ℕ → Type 0

@@ -1,7 +1,7 @@
 ghost use Rattle.std.specs.Prelude.{◌≡◌, IfOk};
-ghost use Rattle.previous_names.specs.PreviousNames as after;
+ghost use Rattle.rsml_names.specs.PreviousNames as after;
 
-use previous_names::previous_names;
+use rsml_names::previous_names;
 use rsml_names::{Globals, NameList};
 use rsml_syntax::{NoMemory, Spec};
 use std::alloc::Global;

@@ -10,7 +10,7 @@ use Rattle.rsml_meaning.specs.Runs.{Reaction, first_world, IsRunFrom}
 use Rattle.rsml_meaning.specs.Texts.{text_line}
 use Rattle.rsml_meaning.specs.Trace.{trace_text}
 use Rattle.text_writer.specs.Writes.{WriterState}
-use Rattle.buffered_sink.specs.Buffering.{AppendsPrefix}
+use Rattle.text_writer.specs.Buffering.{AppendsPrefix}
 use Rattle.event_lines.specs.Told.{rule_of}
 use Rattle.simulator.specs.Outputs.{fault_line, read_line, Output, ReadOutput}
 use Rattle.simulator.specs.helpers.Series.{world_after}

@@ -2,7 +2,7 @@ use Rattle.std.proofs.Common.{◌+◌, false, length, sym, ap, ◌∙◌, arith}
 use Rattle.rsml_meaning.specs.Cells.{cells}
 use Rattle.spelled_numbers.specs.Bits.{bits_of}
 use Rattle.world_levels.specs.Spelling.{cell_part}
-use Rattle.world_sums.proofs.TellLemmas.{part_levels, part_small}
+use Rattle.phrase_diagrams.proofs.TellLemmas.{part_levels, part_small}
 use Rattle.guard_encode.proofs.fixing.spelled_in.Goals as goal
 
 pub overflow_add-components : goal.overflow_add-components

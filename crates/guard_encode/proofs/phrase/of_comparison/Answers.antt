@@ -1,7 +1,7 @@
 use Rattle.std.proofs.lemmas.Result.{IfOk-weaker}
 use Rattle.rsml_syntax.specs.rules.Relations as relations
 use Rattle.rsml_ground.specs.Truths as spec
-use Rattle.world_sums.specs.Tells as exact
+use Rattle.phrase_diagrams.specs.Tells as exact
 use Rattle.guard_encode.proofs.Telling.{exact_tells}
 use Rattle.guard_encode.proofs.phrase.of_comparison.Goals as goal
 

@@ -1,7 +1,7 @@
 use Rattle.std.proofs.Common.{◌≡◌, true, take}
 use Rattle.rsml_ground.specs.Truths.{truths_in}
 use Rattle.macros.specs.Known.{Knows}
-use Rattle.prepared_phrases.specs.Asked.{column_truth}
+use Rattle.macros.specs.Asked.{column_truth}
 use Rattle.micro_step.proofs.asking.each_holds.Given as goal
 
 abbrev pub invariant-loop-literal : goal.invariant-loop-literal

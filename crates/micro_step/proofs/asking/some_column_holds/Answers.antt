@@ -1,7 +1,7 @@
 use Rattle.std.proofs.Common.{sym, ap, ◌∙◌}
 use Rattle.rsml_ground.specs.Truths.{truths_in}
-use Rattle.prepared_phrases.specs.Asked.{column_truth}
-use Rattle.prepared_phrases.proofs.StateLemmas.{some_of_one}
+use Rattle.macros.specs.Asked.{column_truth}
+use Rattle.macros.proofs.StateLemmas.{some_of_one}
 use Rattle.micro_step.proofs.asking.some_column_holds.Goals as goal
 
 pub returns-then-each_holds-clause-truth : goal.returns-then-each_holds-clause-truth

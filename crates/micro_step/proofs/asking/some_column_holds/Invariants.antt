@@ -1,7 +1,7 @@
 use Rattle.std.proofs.Common.{◌≡◌, false, map, take}
 use Rattle.rsml_ground.specs.Truths.{truths_in}
 use Rattle.macros.specs.Known.{Knows}
-use Rattle.prepared_phrases.specs.Asked.{columns_truth}
+use Rattle.macros.specs.Asked.{columns_truth}
 use Rattle.micro_step.proofs.asking.some_column_holds.Given as goal
 
 abbrev pub invariant-loop-column : goal.invariant-loop-column

@@ -1,6 +1,6 @@
 use Rattle.std.proofs.Common.{sym, ap, ◌∙◌}
 use Rattle.rsml_ground.specs.Choices.{are_chosen}
-use Rattle.prepared_phrases.proofs.StateLemmas.{some_of_one}
+use Rattle.macros.proofs.StateLemmas.{some_of_one}
 use Rattle.micro_step.proofs.learning.is_some_chosen.Goals as goal
 
 pub returns-then-are_chosen : goal.returns-then-are_chosen

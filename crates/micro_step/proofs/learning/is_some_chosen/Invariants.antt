@@ -1,5 +1,5 @@
 use Rattle.std.proofs.Common.{◌≡◌, false, map, take}
-use Rattle.prepared_phrases.specs.StatePhrases.{some_chosen}
+use Rattle.macros.specs.StatePhrases.{some_chosen}
 use Rattle.micro_step.proofs.learning.is_some_chosen.Given as goal
 
 abbrev pub invariant-loop-way : goal.invariant-loop-way

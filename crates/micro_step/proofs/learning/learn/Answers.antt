@@ -5,9 +5,9 @@ use Rattle.rsml_ground.specs.Truths.{truths_in}
 use Rattle.macros.specs.Known.{Knows}
 use Rattle.macros.proofs.Learning.{learned_right}
 use Rattle.rsml_ground.specs.declared.choices.Choice.{Choice}
-use Rattle.prepared_phrases.specs.StatePhrases.{some_chosen}
+use Rattle.macros.specs.StatePhrases.{some_chosen}
 use Rattle.micro_step.proofs.MicroLemmas.{world_choices}
-use Rattle.prepared_phrases.proofs.StateLemmas.{of_each}
+use Rattle.macros.proofs.StateLemmas.{of_each}
 use Rattle.micro_step.proofs.learning.learn.Goals as goal
 
 pub is_some_chosen-truth-requires : goal.is_some_chosen-truth-requires

@@ -1,8 +1,8 @@
 use Rattle.std.proofs.Common.{◌<◌, List, All, length, sym, subst, arith}
 use Rattle.std.proofs.lemmas.Bool.Decides.{nat_tests}
-use Rattle.prepared_phrases.specs.declared.state_phrases.StatePhrase.{StatePhrase}
-use Rattle.prepared_phrases.specs.StatePhrases.{IsStatePhrase}
-use Rattle.prepared_phrases.proofs.StateLemmas.{of_one}
+use Rattle.macros.specs.declared.state_phrases.StatePhrase.{StatePhrase}
+use Rattle.macros.specs.StatePhrases.{IsStatePhrase}
+use Rattle.macros.proofs.StateLemmas.{of_one}
 use Rattle.micro_step.proofs.learning.learn_states.Goals as goal
 
 pub learn_all-requires-clause-phrases : goal.learn_all-requires-clause-phrases

@@ -1,5 +1,5 @@
 use Rattle.std.proofs.Common.{◌≤◌, All, length}
-use Rattle.prepared_phrases.specs.StatePhrases.{IsStatePhrase}
+use Rattle.macros.specs.StatePhrases.{IsStatePhrase}
 use Rattle.micro_step.proofs.needed.marked.Given as goal
 
 abbrev pub invariant-loop-number : goal.invariant-loop-number

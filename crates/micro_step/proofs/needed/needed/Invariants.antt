@@ -1,5 +1,5 @@
 use Rattle.std.proofs.Common.{All, map}
-use Rattle.prepared_phrases.specs.StatePhrases.{IsStatePhrase}
+use Rattle.macros.specs.StatePhrases.{IsStatePhrase}
 use Rattle.micro_step.proofs.needed.needed.Given as goal
 
 abbrev pub invariant-loop-event : goal.invariant-loop-event

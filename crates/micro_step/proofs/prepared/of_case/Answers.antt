@@ -1,7 +1,7 @@
 use Rattle.std.proofs.Common.{length, None, sym, subst}
 use Rattle.rsml_ground.specs.declared.definitions.GroundGuard.{GroundGuard}
 use Rattle.macros.specs.Guards.{GuardBelow, HasShape}
-use Rattle.prepared_phrases.specs.Asked.{AsksFor}
+use Rattle.macros.specs.Asked.{AsksFor}
 use Rattle.micro_step.proofs.CandidateLemmas.{case_shape, tells_of_case}
 use Rattle.micro_step.proofs.prepared.of_case.Goals as goal
 

@@ -4,7 +4,7 @@ use Rattle.rsml_syntax.specs.limits.Checked.{IsChecked}
 use Rattle.rsml_meaning.specs.Instances.{states}
 use Rattle.rsml_ground.specs.declared.definitions.GroundGuard.{GroundGuard}
 use Rattle.macros.specs.Guards.{GuardBelow, HasShape}
-use Rattle.prepared_phrases.specs.Asked.{AsksFor}
+use Rattle.macros.specs.Asked.{AsksFor}
 use Rattle.rsml_ground.specs.Choices.{AreOfComponents, TellActivity}
 use Rattle.micro_step.proofs.CandidateLemmas.{own_guard, transition_shape, tells_of_transition}
 use Rattle.micro_step.proofs.MachineLemmas.{source_below}

@@ -4,7 +4,7 @@ use Rattle.rsml_meaning.specs.Certified.{Certified}
 use Rattle.rsml_meaning.specs.EventFiles.{Limits}
 use Rattle.rsml_meaning.specs.Interfaces.{receives}
 use Rattle.rsml_meaning.specs.Scoped.{WellScoped}
-use Rattle.buffered_sink.specs.Parts.{state_of, text_of}
+use Rattle.text_writer.specs.Parts.{state_of, text_of}
 use Rattle.event_file.specs.Reading.{Reading, taken}
 use Rattle.simulator.specs.Simulation.{Simulation}
 use Rattle.simulator.specs.Fitting.{Comes, Goes, NoneComes}

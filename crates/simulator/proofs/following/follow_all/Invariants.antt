@@ -1,5 +1,5 @@
 use Rattle.std.proofs.Common.{◌≡◌, ◌≢◌, ℕ, ◌-◌, ◌≤◌, List, [], Some, None}
-use Rattle.buffered_sink.specs.Parts.{state_of, text_of}
+use Rattle.text_writer.specs.Parts.{state_of, text_of}
 use Rattle.event_file.specs.Reading.{taken}
 use Rattle.simulator.specs.helpers.Progress.{Counted}
 use Rattle.simulator.proofs.LoopLemmas.{AreFollowed}

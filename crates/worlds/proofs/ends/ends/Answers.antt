@@ -3,7 +3,7 @@ use Rattle.rsml_syntax.specs.declared.syntax.Spec.{Spec}
 use Rattle.rsml_syntax.specs.declared.syntax.Decl.{Decl}
 use Rattle.rsml_syntax.specs.text.Names.{Name, is_in}
 use Rattle.rsml_syntax.specs.rules.Globals.{Globals, globals}
-use Rattle.previous_names.specs.PreviousNames.{previous_names}
+use Rattle.rsml_names.specs.PreviousNames.{previous_names}
 use Rattle.worlds.specs.declared.cell_ends.CellEnds.{CellEnds}
 use Rattle.worlds.specs.Ends.{written, declared_ends}
 use Rattle.worlds.proofs.Cells.{all_ends}

@@ -1,7 +1,7 @@
 use Rattle.std.proofs.Common.{int_le, pos, slice_index_or, subst, w64, to_z, of_z, rules, FitsSigned}
 use Rattle.std.proofs.lemmas.Int.{to_z-of_z}
 use Rattle.std.proofs.lemmas.Result.{IfOk-weaker}
-use Rattle.world_sums.specs.Tells as exact
+use Rattle.phrase_diagrams.specs.Tells as exact
 use Rattle.guard_encode.proofs.StepLemmas.{encoded_stay, exact_told}
 use Rattle.guard_encode.proofs.encoder.Encoder.at_most.Goals as goal
 

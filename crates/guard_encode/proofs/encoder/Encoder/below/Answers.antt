@@ -2,7 +2,7 @@ use Rattle.std.proofs.Common.{int_le, pos, slice_index_or, subst, w64, to_z, of_
 use Rattle.std.proofs.lemmas.Int.{to_z-of_z}
 use Rattle.std.proofs.lemmas.Result.{IfOk-weaker}
 use Rattle.bdd_core.specs.Calls.{Represents}
-use Rattle.world_sums.specs.Tells as exact
+use Rattle.phrase_diagrams.specs.Tells as exact
 use Rattle.guard_encode.specs.Encoding.{Encoding, is_at_most, worlds_of}
 use Rattle.guard_encode.proofs.StepLemmas.{encoded_stay}
 use Rattle.guard_encode.proofs.CellLemmas.{below_told}

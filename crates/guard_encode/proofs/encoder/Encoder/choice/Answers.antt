@@ -1,6 +1,6 @@
 use Rattle.std.proofs.Common.{◌==◌, slice_index_or}
 use Rattle.std.proofs.lemmas.Result.{IfOk-weaker}
-use Rattle.world_sums.specs.Tells as exact
+use Rattle.phrase_diagrams.specs.Tells as exact
 use Rattle.guard_encode.proofs.StepLemmas.{encoded_stay, exact_told}
 use Rattle.guard_encode.proofs.encoder.Encoder.choice.Goals as goal
 

@@ -6,7 +6,7 @@ use Rattle.elaborate.specs.Machine.{GroundMachine}
 use Rattle.micro_step.specs.Micros.{AreEvents}
 use Rattle.micro_step.specs.Numbers.{IsFor}
 use Rattle.text_writer.specs.Writes.{Writes}
-use Rattle.trace_texts.specs.Rounds.{IsRoundOf}
+use Rattle.reactions.specs.Rounds.{IsRoundOf}
 use Rattle.reactions.specs.Stepping.{InWorld, WasRound}
 use Rattle.reactions.proofs.WrittenLemmas.{last_round}
 use Rattle.reactions.proofs.running.Running.put_round.Goals as goal

@@ -1,6 +1,6 @@
 use Rattle.std.proofs.Common.{◌≡◌, ◌∙◌}
 use Rattle.rsml_limits.specs.counts.Counting.{CountedNames, counted_names}
-use Rattle.previous_names.specs.PreviousNames.{previous_names}
+use Rattle.rsml_names.specs.PreviousNames.{previous_names}
 use Rattle.rsml_limits.specs.declared.counts.counted.TheConstants.{COUNTED}
 use Rattle.rsml_limits.proofs.CountLemmas.{turn_found, turn_passed}
 use Rattle.rsml_limits.proofs.counts.lowest.lowest_count_over.Goals as goal

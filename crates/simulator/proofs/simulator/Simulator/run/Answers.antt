@@ -1,7 +1,7 @@
 use Rattle.std.proofs.Common.{ℕ, ◌≤◌, List, Option, sym, ap, ◌∙◌, arith, rules, subst}
 use Rattle.rsml_meaning.specs.EventLines.{Bytes}
 use Rattle.text_writer.specs.Writes.{WriterState}
-use Rattle.buffered_sink.specs.Parts.{state_of, text_of}
+use Rattle.text_writer.specs.Parts.{state_of, text_of}
 use Rattle.event_file.specs.Reading.{taken}
 use Rattle.simulator.specs.declared.sim_end.SimEnd.TheVariants as end
 use Rattle.simulator.specs.Simulating.{Meeting, Simulates}

@@ -1,4 +1,0 @@
-pub mod Finished
-pub mod Growth
-pub mod Targets
-pub mod Waiting

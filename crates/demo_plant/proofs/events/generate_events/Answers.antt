@@ -1,9 +1,0 @@
-use Rattle.std.proofs.Common.{◌≡◌, ℕ, map, ap, ◌∙◌, arith}
-use Rattle.rsml_syntax.specs.rules.Globals.{up_to}
-use Rattle.demo_plant.specs.Events.{event_line, whole}
-use Rattle.demo_plant.proofs.events.generate_events.Goals as goal
-
-pub returns : goal.returns
-returns c =
-    let all : c.loop-turn.turn ≡ 1000 = omega arith in
-    c.loop-turn.invariant ∙ ap (λ (k : ℕ). whole (map (event_line c.args.units) (up_to k))) all

@@ -1,8 +1,0 @@
-use Rattle.std.proofs.Common.{◌≡◌, map}
-use Rattle.std.specs.String.{string_bytes}
-use Rattle.rsml_syntax.specs.rules.Globals.{up_to}
-use Rattle.demo_plant.specs.Events.{event_line, whole}
-use Rattle.demo_plant.proofs.events.generate_events.Given as goal
-
-abbrev pub invariant-loop-turn : goal.invariant-loop-turn
-invariant-loop-turn l = string_bytes l.text ≡ whole (map (event_line l.fn.units) (up_to l.turn))

@@ -1,5 +1,0 @@
-use Rattle.demo_plant.proofs.Demos.{demos_are_certified}
-use Rattle.demo_plant.proofs.laws.demos_are_certified.Goals as goal
-
-pub returns : goal.returns
-returns c = demos_are_certified

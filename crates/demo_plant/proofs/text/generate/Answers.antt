@@ -1,5 +1,0 @@
-use Rattle.demo_plant.proofs.Joined.{two_put}
-use Rattle.demo_plant.proofs.text.generate.Goals as goal
-
-pub returns : goal.returns
-returns c = two_put _ _ _ _ _ c.new-text.ensures.bytes c.in_ok-put_declarations.ensures c.in_ok-put_states.ensures

@@ -1,5 +1,0 @@
-pub mod Writing
-pub mod Plant
-pub mod Text
-pub mod Events
-pub mod Laws

@@ -1,0 +1,10 @@
+use Rattle.bdd_core.specs.Diagram.{IsRef}
+use Rattle.guard_encode.specs.Encoding.{Keeps}
+use Rattle.finding_notes.proofs.soundness.count_enabled.Given as goal
+
+abbrev pub invariant-loop-place : goal.invariant-loop-place
+invariant-loop-place l = record {
+  keeps : Keeps l.fn.encoder l.encoder;
+  some : IsRef l.encoder.diagram l.counted.some;
+  two : IsRef l.encoder.diagram l.counted.two;
+}

@@ -1,6 +1,0 @@
-//! The names that stand after `previous` in a specification.
-#![tactic(auto)]
-
-mod previous;
-
-pub use previous::previous_names;

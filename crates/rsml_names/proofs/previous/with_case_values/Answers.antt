@@ -1,0 +1,8 @@
+use Rattle.std.proofs.Common.{◌∷◌, []}
+use Rattle.rsml_syntax.specs.declared.syntax.Case.{Case}
+use Rattle.rsml_names.proofs.PreviousGathering.{gathered_turn}
+use Rattle.rsml_names.proofs.previous.with_case_values.Goals as goal
+
+pub loop-case-preserved : goal.loop-case-preserved
+loop-case-preserved c =
+    gathered_turn _ _ _ (λ (x : Case). x.value ∷ []) _ _ _ c.loop-case-test.true c.case-item.is c.loop-case.invariant c.in_ok-names.ensures

@@ -1,0 +1,6 @@
+use Rattle.std.proofs.Common.{◌≡◌, take, flat_map, ◌∷◌, []}
+use Rattle.rsml_names.specs.PreviousNames.{gathered}
+use Rattle.rsml_names.proofs.previous.with_case_values.Given as goal
+
+abbrev pub invariant-loop-case : goal.invariant-loop-case
+invariant-loop-case l = l.names ≡ gathered l.fn.names (flat_map (λ c. c.value ∷ []) (take l.case-index l.cases))

@@ -1,7 +1,0 @@
-use Rattle.text_writer.proofs.WritingLemmas.{followed, alike}
-use Rattle.trace_texts.proofs.EventTexts.{event_pieces}
-use Rattle.trace_texts.proofs.events.put_event_line.Goals as goal
-
-pub returns : goal.returns
-returns g c x at =
-    alike (event_pieces c.args.texts.now c.args.number c.args.receive x at) (followed c.put.ensures (followed c.put_number.ensures c.put-2.ensures))

@@ -1,5 +1,0 @@
-use Rattle.text_writer.proofs.WritingLemmas.{followed}
-use Rattle.trace_texts.proofs.part.put_send_start.Goals as goal
-
-pub returns : goal.returns
-returns g c = followed c.put.ensures c.put_send.ensures

@@ -1,9 +1,0 @@
-use Rattle.std.proofs.Common.{ℕ, List, length, ap}
-use Rattle.trace_texts.specs.Lines.{take_line}
-use Rattle.trace_texts.proofs.FirstTexts.{one_first_more}
-use Rattle.trace_texts.proofs.take_lines.TakeLines.new.Goals as goal
-
-pub loop-transition-preserved : goal.loop-transition-preserved
-loop-transition-preserved c =
-    one_first_more (take_line c.args.machine.now.base.spec) 16777216 c.loop-transition.lines _ c.in_ok-line.line c.loop-transition.transition c.loop-transition.room _
-    c.loop-transition.invariant c.in_ok-push.ensures.ok c.in_ok-line.ensures (ap (λ (l : List ℕ). length l) c.bytes-size.ensures) c.if-size-room.false
