@@ -4,8 +4,8 @@ ghost use Rattle.rsml_ground.specs.Grounded.{IsShort};
 ghost use Rattle.source_notes.specs.Comments.{AreComments};
 
 use crate::chains::chains_of;
-use elaborate::{Machine, elaborate};
 use crate::tell_enabled;
+use elaborate::{Machine, elaborate};
 use event_chains::Chains;
 use finding_notes::tell_findings;
 use finding_texts::Verdict;

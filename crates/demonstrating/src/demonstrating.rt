@@ -6,14 +6,14 @@ ghost use Rattle.judging.specs.Judgements.{IsJudgement};
 ghost use Rattle.demonstrating.specs.Steps as steps;
 ghost use Rattle.demonstrating.specs.Summary.{AreCountsOf, AreEventsOf, IsPlantOf, IsReportOf, IsSummary, count_lines, demo_line};
 
-use answering::{Status, finish};
 use crate::{demo_events_are_well_formed, demos_are_certified, generate, generate_events};
+use answering::{Status, finish};
 use elaborate::{Machine, elaborate};
 use judging::{Judgement, judge};
-use rsml_meaning::last_lines_tell_the_verdict;
 use rsml_base::{put, put_number};
 use rsml_io::Sink;
 use rsml_lexer::{at_most_one_first_fault, at_most_one_token_list, never_both};
+use rsml_meaning::last_lines_tell_the_verdict;
 use rsml_parser::tokens_have_one_answer;
 use rsml_syntax::{Checked, NoMemory};
 use run_counts::{Counts, count_run};

@@ -1,9 +1,9 @@
 //! Tables of members, drawn with the cells that fail.
 
 use crate::holdings::put_padded;
+use crate::{TruthTable, fails, is_true};
 use and_or_tables::{GroundRow, Truths};
 use ground_groups::Member;
-use crate::{TruthTable, fails, is_true};
 use rsml_base::NoMemory;
 use rsml_ground::GroundGuard;
 use rsml_syntax::Cell;

@@ -3,13 +3,13 @@
 use crate::drawing::{letter, text_at};
 use crate::finding::Finding;
 use crate::sharing::{alike_at, alike_count, beside};
+use crate::{
+    Added, Change, TruthTable, cell_at, columns_stay, is_sound_with, is_true, member_count, rows_of,
+};
 use and_or_tables::{GroundRow, Truths};
 use elaborate::Machine;
 use finding_texts::Verdict;
 use ground_groups::Member;
-use crate::{
-    Added, Change, TruthTable, cell_at, columns_stay, is_sound_with, is_true, member_count, rows_of,
-};
 use guard_encode::Encoder;
 use rsml_base::NoMemory;
 use rsml_ground::GroundGuard;

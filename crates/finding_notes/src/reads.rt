@@ -1,9 +1,9 @@
 //! What a group reads of a world: components, cells and phrases, also those behind macros, functions and quantifiers.
 
+use crate::{member_at, member_count, rows_of};
 use and_or_tables::GroundRow;
 use elaborate::Machine;
 use ground_groups::GroupKind;
-use crate::{member_at, member_count, rows_of};
 use rsml_base::NoMemory;
 use rsml_ground::{Definition, GroundCase, GroundOperand, GroundPhrase, GroundSum};
 use state_tree::Tree;

@@ -12,12 +12,11 @@ ghost use Rattle.guard_encode.specs.Phrases.{case_holds};
 use crate::test::Test;
 use bdd_core::{Arena, Ref};
 use linear_bits::SumTable;
-use phrase_diagrams::guard;
+use phrase_diagrams::{compare_number, guard};
 use rsml_base::NoMemory;
 use rsml_ground::GroundCase;
 use std::alloc::Global;
 use world_levels::Layout;
-use phrase_diagrams::compare_number;
 
 /// Where some case has a true guard and a value that passes the test.
 pub fn some_case(

@@ -10,10 +10,10 @@ use elaborate::Machine;
 use keyed_levels::KeyedLevels;
 use level_order::{first_alike, order};
 use linear_bits::SumTable;
+use phrase_diagrams::active_states;
 use rsml_base::NoMemory;
 use rsml_ground::GroundGuard;
 use settled_worlds::ExactKeys;
-use phrase_diagrams::active_states;
 use std::alloc::Global;
 use std::marker::Model;
 

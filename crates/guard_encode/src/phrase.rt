@@ -21,13 +21,12 @@ use crate::test::Test;
 use bdd_core::{Arena, Ref};
 use keyed_levels::KeyedLevels;
 use linear_bits::SumTable;
-use phrase_diagrams::{each_of, some_of, table};
+use phrase_diagrams::{compare, each_of, some_of, table};
 use rsml_base::NoMemory;
 use rsml_ground::{Definition, GroundPhrase, GroundSum};
 use rsml_syntax::Relation;
 use std::alloc::Global;
 use world_levels::Layout;
-use phrase_diagrams::compare;
 
 /// The diagram of the next phrase. Of comparisons that are alike the first may have a level.
 pub fn next(

@@ -11,8 +11,7 @@ use crate::cell_ref::CellRef;
 use crate::listed::Listed;
 use crate::listings::listing;
 use crate::sorts::Sort;
-use rsml_names::previous_names;
-use rsml_names::{Globals, NameList, name_of};
+use rsml_names::{Globals, NameList, name_of, previous_names};
 use rsml_syntax::{Decl, NoMemory, Spec};
 use std::alloc::Global;
 

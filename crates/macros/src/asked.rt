@@ -5,8 +5,8 @@ ghost use Rattle.rsml_ground.specs.declared.definitions.GroundGuard.TheVariants 
 ghost use Rattle.macros.specs.Asked.{AskedBelow, AsksFor, ColumnBelow, HaveSameColumns, asked_truth, columns_truth, wants};
 ghost use Rattle.macros.specs.Asked as spec;
 
-use and_or_tables::{GroundRow, GroundTable};
 use crate::FastGuard;
+use and_or_tables::{GroundRow, GroundTable};
 use rsml_ground::GroundGuard;
 use rsml_syntax::{Cell, NoMemory};
 use std::alloc::Global;

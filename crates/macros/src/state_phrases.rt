@@ -9,9 +9,8 @@ ghost use Rattle.rsml_ground.specs.Choices.{AreOfComponents, are_chosen};
 ghost use Rattle.macros.specs.StatePhrases.{AreWays, IsStatePhrase, IsWay, some_chosen};
 
 use crate::Macros;
-use rsml_ground::GroundPhrase;
+use rsml_ground::{Choice, GroundPhrase, choices_around};
 use rsml_syntax::NoMemory;
-use rsml_ground::{Choice, choices_around};
 use state_tree::Tree;
 use std::alloc::Global;
 

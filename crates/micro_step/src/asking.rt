@@ -7,8 +7,7 @@ ghost use Rattle.and_or_tables.specs.Ground.{known};
 ghost use Rattle.macros.specs.Asked.{AskedBelow, ColumnBelow, asked_truth, column_truth, columns_truth, literal_truth};
 
 use elaborate::Machine;
-use macros::{FastGuard, Memo};
-use macros::{Asked, Literal};
+use macros::{Asked, FastGuard, Literal, Memo};
 use rsml_syntax::World;
 
 /// The truth of a guard in the world.

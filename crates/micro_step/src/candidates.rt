@@ -11,10 +11,9 @@ ghost use Rattle.micro_step.specs.Rising.{AreRising, among};
 use crate::asking::is_true;
 use crate::rising::Rising;
 use elaborate::Machine;
-use macros::Memo;
-use macros::Asked;
-use rsml_syntax::World;
+use macros::{Asked, Memo};
 use rsml_ground::{Choice, are_chosen};
+use rsml_syntax::World;
 
 /// A transition, or a case of a send, by its number: the children that make its source active, and how its guard is asked. Where
 /// the truth of the guard is kept once it is known, it is kept at the number of a transition with the same guard.

@@ -5,10 +5,9 @@ ghost use Rattle.macros.specs.StatePhrases.{IsStatePhrase, some_chosen};
 
 use crate::events::Events;
 use elaborate::Machine;
-use macros::Memo;
-use macros::StatePhrase;
-use rsml_syntax::World;
+use macros::{Memo, StatePhrase};
 use rsml_ground::{Choice, are_chosen};
+use rsml_syntax::World;
 
 /// Whether the component of each choice of one of these lists has its child.
 fn is_some_chosen(chosen: &[u8], ways: &[Vec<Choice>]) -> bool

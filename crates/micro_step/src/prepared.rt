@@ -8,8 +8,8 @@ ghost use Rattle.micro_step.specs.Candidates.{AreFor, AreOfCases, AreOfTransitio
 use crate::candidates::Candidate;
 use elaborate::Machine;
 use macros::Asked;
-use rsml_syntax::NoMemory;
 use rsml_ground::choices_around;
+use rsml_syntax::NoMemory;
 use std::alloc::Global;
 
 /// How many candidates before a transition are looked through for its guard.

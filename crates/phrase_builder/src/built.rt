@@ -7,8 +7,7 @@ ghost use Rattle.phrase_builder.specs.Sources.{all_defined_by};
 use crate::definitions::definition;
 use crate::lookup::Lookup;
 use crate::sources::{Source, sources};
-use rsml_ground::rules_scope_phrases;
-use rsml_ground::{Definition, Phrases};
+use rsml_ground::{Definition, Phrases, rules_scope_phrases};
 use rsml_syntax::NoMemory;
 use std::alloc::Global;
 

@@ -7,12 +7,12 @@ ghost use Rattle.phrase_diagrams.specs.Tells.{Tells};
 ghost use Rattle.rsml_ground.specs.Children.{IsPlaceOf, has_child};
 ghost use Rattle.phrase_diagrams.specs.Active.{SpellChoices};
 
+use crate::choice;
 use bdd_core::{Arena, Ref};
 use linear_bits::SumTable;
 use rsml_base::NoMemory;
 use state_tree::Tree;
 use world_levels::Layout;
-use crate::choice;
 
 /// The place that a state has among the children of a component, if it is one of them.
 fn place_of(tree: &Tree<'_>, component: u32, node: u32) -> Option<u8>

@@ -12,6 +12,7 @@ ghost use Rattle.micro_step.specs.Rows.{bits_of, member_rows};
 ghost use Rattle.text_writer.specs.Writes.{Writes};
 ghost use Rattle.reactions.specs.Stepping.{IsExternal, RoundIsDone, WasRound};
 
+use crate::Traces;
 use crate::raising::raise;
 use crate::waiting::Waiting;
 use elaborate::Machine;
@@ -21,7 +22,6 @@ use rsml_syntax::{Checked, NoMemory, World};
 use std::alloc::Global;
 use std::marker::Model;
 use text_writer::Writer;
-use crate::Traces;
 
 /// A machine that runs: the events that are present, and what it keeps for its rounds. The world that it keeps is the one before the last
 /// round, so that it can be asked what was true there: what that round moved is entered when the next one begins, and so is the message

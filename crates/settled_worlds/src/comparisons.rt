@@ -9,10 +9,10 @@ use crate::one_key::key;
 use bdd_core::{Arena, Ref};
 use keyed_levels::KeyedLevels;
 use linear_bits::SumTable;
+use phrase_diagrams::compare;
 use rsml_base::NoMemory;
 use rsml_ground::GroundPhrase;
 use std::alloc::Global;
-use phrase_diagrams::compare;
 
 /// The exact diagram of the key at a place. It is made where it has not been.
 pub(crate) fn exact_of(

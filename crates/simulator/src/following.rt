@@ -11,10 +11,11 @@ use crate::course::Course;
 use crate::reacting::put_reaction;
 use crate::sim_end::SimEnd;
 use crate::upcoming::Upcoming;
-use text_writer::BufferedSink;
-use rsml_meaning::event_files_have_one_run;
 use rsml_io::{Files, Sink};
-use rsml_meaning::{a_first_fault_is_of_a_line, well_formed_files_have_no_fault};
+use rsml_meaning::{
+    a_first_fault_is_of_a_line, event_files_have_one_run, well_formed_files_have_no_fault,
+};
+use text_writer::BufferedSink;
 
 /// How a simulation ends, by a final answer.
 fn end_by(answer: Upcoming) -> SimEnd

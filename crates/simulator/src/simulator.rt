@@ -16,7 +16,6 @@ use crate::following::follow_all;
 use crate::last_line::put_last_line;
 use crate::sim_end::SimEnd;
 use crate::upcoming::Upcoming;
-use text_writer::{Buffer, BufferedSink};
 use elaborate::Machine;
 use event_file::Limits;
 use ground_groups::Member;
@@ -24,6 +23,7 @@ use rsml_io::{Files, Sink};
 use rsml_syntax::{Checked, NoMemory};
 use std::alloc::Global;
 use std::marker::Model;
+use text_writer::{Buffer, BufferedSink};
 
 /// How many bytes of a trace wait at most before they are written.
 const ROOM: usize = 65536;

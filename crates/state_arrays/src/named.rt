@@ -8,8 +8,7 @@ use crate::declared::events;
 use crate::input_names::InputNames;
 use crate::instances::Instances;
 use crate::interface_names::InterfaceNames;
-use rsml_names::previous_names;
-use rsml_names::Globals;
+use rsml_names::{Globals, previous_names};
 use rsml_syntax::{NoMemory, Spec};
 use std::alloc::Global;
 

@@ -2,11 +2,11 @@ ghost use Rattle.std.specs.Prelude.{◌≡◌, ◌≢◌, true, false, []};
 ghost use Rattle.std.proofs.Props.{props};
 ghost use Rattle.text_writer.specs.Buffering.{Continues};
 
+use crate::Writer;
 use crate::buffer::Buffer;
 use crate::flushing::write_waiting;
 use rsml_io::Sink;
 use std::snapshot::Snapshot;
-use crate::Writer;
 
 /// A sink behind a buffer. It holds both by reference, so that the sink is its owner's again when it is gone.
 pub struct BufferedSink<'s, K: Sink> {

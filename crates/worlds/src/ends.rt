@@ -9,8 +9,7 @@ ghost use Rattle.rsml_meaning.specs.Cells.{cells, type_named};
 ghost use Rattle.worlds.specs.Ends.{declared_ends, ends_of, named_ends, written};
 
 use crate::cell_ends::CellEnds;
-use rsml_names::previous_names;
-use rsml_names::{Globals, Known, NameList, number_of};
+use rsml_names::{Globals, Known, NameList, number_of, previous_names};
 use rsml_syntax::{Amount, Checked, Decl, Initial, NoMemory, Text};
 use std::alloc::Global;
 

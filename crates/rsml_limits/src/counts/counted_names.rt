@@ -1,8 +1,7 @@
 ghost use Rattle.std.specs.Prelude.{◌≡◌, IfOk};
 ghost use Rattle.rsml_names.specs.PreviousNames as after;
 
-use rsml_names::previous_names;
-use rsml_names::{Globals, NameList};
+use rsml_names::{Globals, NameList, previous_names};
 use rsml_syntax::{NoMemory, Spec};
 use std::alloc::Global;
 use std::marker::Model;
