@@ -145,7 +145,7 @@ fn with_send_cases<'a>(names: NameList<'a>, cases: &'a [SendCase]) -> Result<Nam
     with_send_answers(names, cases)
 }
 
-#[tactic(auto, using(crate::proofs::Gathering::macro_sums, crate::proofs::Gathering::gathered_none))]
+#[tactic(auto, using(crate::proofs::PreviousGathering::macro_sums, crate::proofs::PreviousGathering::gathered_none))]
 fn with_declaration<'a>(names: NameList<'a>, decl: &'a Decl) -> Result<NameList<'a>, NoMemory>
     ensures { IfOk result (λ n. n ≡ gathered names.entry (after.sums_of_declaration decl.now)) }
 {
