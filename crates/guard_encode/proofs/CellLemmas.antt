@@ -7,7 +7,7 @@ use Rattle.rsml_meaning.specs.Worlds.{IsWorld}
 use Rattle.rsml_ground.specs.Truths.{Grounded}
 use Rattle.bdd_core.specs.Diagram.{Diagram, meaning}
 use Rattle.bdd_core.specs.Calls.{Represents}
-use Rattle.linear_bits.specs.declared.weighted.Weighted.{Weighted}
+use Rattle.spelled_numbers.specs.declared.weighted.Weighted.{Weighted}
 use Rattle.spelled_numbers.specs.declared.slot.Slot.{Slot}
 use Rattle.spelled_numbers.specs.declared.slot.Slot.TheVariants.{Part, Free}
 use Rattle.spelled_numbers.specs.Spelling.{number}

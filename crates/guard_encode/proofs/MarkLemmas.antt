@@ -10,7 +10,7 @@ use Rattle.rsml_meaning.specs.Instances.{components}
 use Rattle.rsml_meaning.specs.Cells.{cells}
 use Rattle.bdd_core.specs.Diagram.{Diagram}
 use Rattle.bdd_core.specs.Calls as arena
-use Rattle.linear_bits.specs.declared.weighted.Weighted.{Weighted}
+use Rattle.spelled_numbers.specs.declared.weighted.Weighted.{Weighted}
 use Rattle.spelled_numbers.specs.declared.slot.Slot.{Slot}
 use Rattle.spelled_numbers.specs.Bits.{bits_of}
 use Rattle.free_levels.specs.Values.{is_in}

@@ -5,7 +5,7 @@ use Rattle.rsml_meaning.specs.Instances.{components}
 use Rattle.rsml_meaning.specs.Cells.{cells}
 use Rattle.rsml_ground.specs.declared.sums.GroundTerm.{GroundTerm}
 use Rattle.bdd_core.specs.Diagram.{Diagram, meaning}
-use Rattle.linear_bits.specs.declared.weighted.Weighted.{Weighted}
+use Rattle.spelled_numbers.specs.declared.weighted.Weighted.{Weighted}
 use Rattle.spelled_numbers.specs.declared.slot.Slot.{Slot}
 use Rattle.spelled_numbers.specs.Bits.{bits_of}
 use Rattle.world_levels.specs.Spelling.{cell_part}

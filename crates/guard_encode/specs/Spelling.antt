@@ -3,8 +3,8 @@ use Rattle.std.specs.Prelude.{◌≡◌, ℕ, ◌-◌, nat_lt, Bool, true, ◌&&
 use Rattle.rsml_syntax.specs.declared.world.World.{World}
 use Rattle.rsml_meaning.specs.Worlds.{IsWorld}
 use Rattle.bdd_core.specs.Diagram.{Diagram, IsRef, meaning}
-use Rattle.linear_bits.specs.declared.weighted.Weighted.{Weighted}
-use Rattle.linear_bits.specs.Sums.{total_weight}
+use Rattle.spelled_numbers.specs.declared.weighted.Weighted.{Weighted}
+use Rattle.spelled_numbers.specs.Sums.{total_weight}
 use Rattle.world_levels.specs.Spelling.{spelled_world}
 use Rattle.keyed_levels.specs.Keyed.{KeyedWorlds, world_at}
 

@@ -11,10 +11,10 @@ ghost use Rattle.guard_encode.specs.Phrases.{case_holds};
 
 use crate::test::Test;
 use bdd_core::{Arena, Ref};
-use linear_bits::SumTable;
 use phrase_diagrams::{compare_number, guard};
 use rsml_base::NoMemory;
 use rsml_ground::GroundCase;
+use spelled_numbers::SumTable;
 use std::alloc::Global;
 use world_levels::Layout;
 

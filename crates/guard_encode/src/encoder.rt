@@ -9,11 +9,11 @@ use bdd_core::{Arena, Ref};
 use elaborate::Machine;
 use keyed_levels::KeyedLevels;
 use level_order::{first_alike, order};
-use linear_bits::SumTable;
 use phrase_diagrams::active_states;
 use rsml_base::NoMemory;
 use rsml_ground::GroundGuard;
 use settled_worlds::ExactKeys;
+use spelled_numbers::SumTable;
 use std::alloc::Global;
 use std::marker::Model;
 

@@ -20,11 +20,11 @@ use crate::opposites::{first_like, key_of_opposite};
 use crate::test::Test;
 use bdd_core::{Arena, Ref};
 use keyed_levels::KeyedLevels;
-use linear_bits::SumTable;
 use phrase_diagrams::{compare, each_of, some_of, table};
 use rsml_base::NoMemory;
 use rsml_ground::{Definition, GroundPhrase, GroundSum};
 use rsml_syntax::Relation;
+use spelled_numbers::SumTable;
 use std::alloc::Global;
 use world_levels::Layout;
 

@@ -6,8 +6,8 @@ ghost use Rattle.guard_encode.specs.Phrases.{AreActive, ArePhrases};
 use crate::phrase::next;
 use bdd_core::{Arena, Ref};
 use keyed_levels::KeyedLevels;
-use linear_bits::SumTable;
 use rsml_base::NoMemory;
+use spelled_numbers::SumTable;
 use std::alloc::Global;
 
 /// The diagrams of all phrases.

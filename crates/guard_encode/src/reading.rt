@@ -13,10 +13,10 @@ ghost use Rattle.settled_worlds.specs.Steps.{compares, is_cell};
 use crate::encoder::Encoder;
 use bdd_core::{Arena, Ref};
 use keyed_levels::{Keyed, KeyedLevels, keyed_laws};
-use linear_bits::Weighted;
 use rsml_base::{List, NoMemory};
 use rsml_ground::{GroundOperand, GroundPhrase, GroundTerm};
 use settled_worlds::{is_used, used_levels};
+use spelled_numbers::Weighted;
 use std::alloc::Global;
 use world_levels::{Layout, world_laws};
 

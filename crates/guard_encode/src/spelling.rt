@@ -2,12 +2,12 @@
 ghost use Rattle.std.specs.Prelude.{◌≡◌, ◌<◌, ◌^◌, ◌&&◌, IfOk};
 ghost use Rattle.bdd_core.specs.Diagram.{IsRef, meaning};
 ghost use Rattle.bdd_core.specs.Calls.{Keeps, Represents};
-ghost use Rattle.linear_bits.specs.Sums.{AreLevels, total_weight};
+ghost use Rattle.spelled_numbers.specs.Sums.{AreLevels, total_weight};
 ghost use Rattle.guard_encode.specs.Spelling as spec;
 
 use bdd_core::{Arena, Ref};
-use linear_bits::Weighted;
 use rsml_base::NoMemory;
+use spelled_numbers::Weighted;
 
 /// Where the levels of a part have the values by which a number is spelled: a level is true where the later ones are not enough.
 pub(crate) fn spelled(arena: &mut Arena, bits: &[Weighted], number: u64) -> Result<Ref, NoMemory>

@@ -9,10 +9,10 @@ use Rattle.rsml_ground.specs.Rests.{SumFits}
 use Rattle.rsml_ground.specs.Truths.{sum_number}
 use Rattle.bdd_core.specs.Diagram.{Diagram}
 use Rattle.bdd_core.specs.Calls.{Represents}
-use Rattle.linear_bits.specs.declared.comparison.Comparison.{Comparison}
-use Rattle.linear_bits.specs.declared.comparison.Comparison.TheVariants as comparisons
-use Rattle.linear_bits.specs.declared.weighted.Weighted.{Weighted}
-use Rattle.linear_bits.specs.Sums.{signed_sum, holds}
+use Rattle.spelled_numbers.specs.declared.comparison.Comparison.{Comparison}
+use Rattle.spelled_numbers.specs.declared.comparison.Comparison.TheVariants as comparisons
+use Rattle.spelled_numbers.specs.declared.weighted.Weighted.{Weighted}
+use Rattle.spelled_numbers.specs.Sums.{signed_sum, holds}
 use Rattle.spelled_numbers.proofs.BitLemmas.{append}
 use Rattle.world_levels.specs.Spelling.{WorldLevels}
 use Rattle.phrase_diagrams.specs.Terms.{sum_base, sum_levels}

@@ -10,9 +10,9 @@ use Rattle.rsml_ground.specs.Rests.{SumFits}
 use Rattle.rsml_ground.specs.Truths.{sum_number}
 use Rattle.bdd_core.specs.Diagram.{Diagram}
 use Rattle.bdd_core.specs.Calls.{Represents}
-use Rattle.linear_bits.specs.declared.comparison.Comparison.{Comparison}
-use Rattle.linear_bits.specs.declared.weighted.Weighted.{Weighted}
-use Rattle.linear_bits.specs.Sums.{term_value, signed_sum, total_weight, holds}
+use Rattle.spelled_numbers.specs.declared.comparison.Comparison.{Comparison}
+use Rattle.spelled_numbers.specs.declared.weighted.Weighted.{Weighted}
+use Rattle.spelled_numbers.specs.Sums.{term_value, signed_sum, total_weight, holds}
 use Rattle.spelled_numbers.specs.Spelling.{total}
 use Rattle.world_levels.specs.Spelling.{WorldLevels}
 use Rattle.phrase_diagrams.specs.Signs.{IsWithin}

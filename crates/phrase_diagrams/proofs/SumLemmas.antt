@@ -11,8 +11,8 @@ use Rattle.rsml_ground.specs.declared.sums.GroundTerm.{GroundTerm}
 use Rattle.rsml_ground.specs.declared.sums.GroundSum.{GroundSum}
 use Rattle.rsml_ground.specs.Rests.{OperandFits, SumFits}
 use Rattle.rsml_ground.specs.Truths.{operand_number, term_number, sum_number}
-use Rattle.linear_bits.specs.declared.weighted.Weighted.{Weighted}
-use Rattle.linear_bits.specs.Sums.{signed_sum, total_weight}
+use Rattle.spelled_numbers.specs.declared.weighted.Weighted.{Weighted}
+use Rattle.spelled_numbers.specs.Sums.{signed_sum, total_weight}
 use Rattle.spelled_numbers.specs.Spelling.{total, number}
 use Rattle.spelled_numbers.specs.Bits.{bits_of}
 use Rattle.spelled_numbers.proofs.BitLemmas.{append, signed-number, totals, levels}

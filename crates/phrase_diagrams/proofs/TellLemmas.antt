@@ -7,8 +7,8 @@ use Rattle.rsml_meaning.specs.Instances.{components}
 use Rattle.rsml_meaning.specs.Cells.{InputCell, cells}
 use Rattle.bdd_core.specs.Diagram.{Diagram}
 use Rattle.bdd_core.specs.Calls.{Represents}
-use Rattle.linear_bits.specs.declared.weighted.Weighted.{Weighted}
-use Rattle.linear_bits.specs.Sums.{weight_sum, total_weight, AreLevels, AddOnly}
+use Rattle.spelled_numbers.specs.declared.weighted.Weighted.{Weighted}
+use Rattle.spelled_numbers.specs.Sums.{weight_sum, total_weight, AreLevels, AddOnly}
 use Rattle.spelled_numbers.specs.declared.slot.Slot.{Slot}
 use Rattle.spelled_numbers.specs.Spelling.{total, number}
 use Rattle.spelled_numbers.specs.Bits.{bits_of}

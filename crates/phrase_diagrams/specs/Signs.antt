@@ -1,6 +1,6 @@
 -- Levels with another sign, and numbers that are small on both sides of 0. No public clause speaks of these.
 use Rattle.std.specs.Prelude.{ℕ, Bool, ℤ, pos, neg_ℤ, ◌≤ℤ◌}
-use Rattle.linear_bits.specs.declared.weighted.Weighted.{Weighted}
+use Rattle.spelled_numbers.specs.declared.weighted.Weighted.{Weighted}
 
 -- a level with this sign
 abbrev pub with_sign : Bool → Weighted → Weighted

@@ -7,7 +7,7 @@ use Rattle.rsml_ground.specs.declared.sums.GroundOperand.{GroundOperand}
 use Rattle.rsml_ground.specs.declared.sums.GroundOperand.TheVariants as operands
 use Rattle.rsml_ground.specs.declared.sums.GroundTerm.{GroundTerm}
 use Rattle.rsml_ground.specs.declared.sums.GroundSum.{GroundSum}
-use Rattle.linear_bits.specs.declared.weighted.Weighted.{Weighted}
+use Rattle.spelled_numbers.specs.declared.weighted.Weighted.{Weighted}
 use Rattle.spelled_numbers.specs.Bits.{bits_of}
 use Rattle.world_levels.specs.Spelling.{WorldLevels, cell_part}
 

@@ -6,8 +6,8 @@ ghost use Rattle.phrase_diagrams.specs.Tells.{Tells};
 
 use crate::cells::cell_bits;
 use bdd_core::{Arena, Ref};
-use linear_bits::SumTable;
 use rsml_base::NoMemory;
+use spelled_numbers::SumTable;
 use world_levels::Layout;
 
 /// Where a cell has at most this number.

@@ -4,7 +4,7 @@ ghost use Rattle.rsml_meaning.specs.Cells.{cells};
 ghost use Rattle.spelled_numbers.specs.Bits.{bits_of};
 ghost use Rattle.world_levels.specs.Spelling.{cell_part};
 
-use linear_bits::Weighted;
+use spelled_numbers::Weighted;
 use world_levels::Layout;
 
 /// The levels of a cell, whose weights add.

@@ -2,12 +2,12 @@
 ghost use Rattle.std.specs.Prelude.{◌≡◌, ◌==◌, ◌^◌, ◌<◌, length, slice_index_or, IfOk};
 ghost use Rattle.rsml_meaning.specs.Instances.{components};
 ghost use Rattle.bdd_core.specs.Calls.{Keeps, Represents};
-ghost use Rattle.linear_bits.specs.Sums.{weight_sum, total_weight, AreLevels, AddOnly};
+ghost use Rattle.spelled_numbers.specs.Sums.{weight_sum, total_weight, AreLevels, AddOnly};
 ghost use Rattle.phrase_diagrams.specs.Tells.{Tells};
 
 use bdd_core::{Arena, Ref};
-use linear_bits::{SumTable, Weighted};
 use rsml_base::NoMemory;
+use spelled_numbers::{SumTable, Weighted};
 use world_levels::Layout;
 
 /// Where a component has the child at a place.

@@ -9,8 +9,8 @@ ghost use Rattle.phrase_diagrams.specs.Active.{SpellChoices};
 
 use crate::choice;
 use bdd_core::{Arena, Ref};
-use linear_bits::SumTable;
 use rsml_base::NoMemory;
+use spelled_numbers::SumTable;
 use state_tree::Tree;
 use world_levels::Layout;
 

@@ -5,7 +5,7 @@ ghost use Rattle.rsml_meaning.specs.Cells.{cells};
 ghost use Rattle.rsml_ground.specs.Rests.{SumFits};
 ghost use Rattle.rsml_ground.specs.Truths.{sum_number};
 ghost use Rattle.bdd_core.specs.Calls.{Keeps};
-ghost use Rattle.linear_bits.specs.Sums.{holds};
+ghost use Rattle.spelled_numbers.specs.Sums.{holds};
 ghost use Rattle.phrase_diagrams.specs.Tells.{Tells};
 ghost use Rattle.phrase_diagrams.specs.Terms.{sum_levels};
 
@@ -13,10 +13,10 @@ use crate::bases::sum_base;
 use crate::levels::compare_levels;
 use crate::terms::push_sum;
 use bdd_core::{Arena, Ref};
-use linear_bits::{Comparison, SumTable, Weighted};
 use rsml_base::NoMemory;
 use rsml_ground::GroundSum;
 use rsml_syntax::Relation;
+use spelled_numbers::{Comparison, SumTable, Weighted};
 use std::alloc::Global;
 use world_levels::Layout;
 

@@ -1,11 +1,11 @@
 //! Sums of levels, taken in the order of the levels.
 ghost use Rattle.std.specs.Prelude.{◌≡◌, ◌^◌, ◌<◌, IfOk, pos, neg_ℤ, ◌≤ℤ◌};
 ghost use Rattle.bdd_core.specs.Calls.{Keeps, Represents};
-ghost use Rattle.linear_bits.specs.Sums.{signed_sum, total_weight, AreLevels, holds};
+ghost use Rattle.spelled_numbers.specs.Sums.{signed_sum, total_weight, AreLevels, holds};
 
 use bdd_core::{Arena, Ref};
-use linear_bits::{Comparison, SumTable, Weighted};
 use rsml_base::NoMemory;
+use spelled_numbers::{Comparison, SumTable, Weighted};
 
 /// Where the signed sum of the weights of the true levels compares so with a constant. The levels are taken in their order, so that
 /// cells that meet are compared weight by weight, and not one whole cell after another.

@@ -14,10 +14,10 @@ use crate::comparisons::comparison_of;
 use crate::levels::compare_levels;
 use crate::terms::push_sum;
 use bdd_core::{Arena, Ref};
-use linear_bits::SumTable;
 use rsml_base::NoMemory;
 use rsml_ground::GroundSum;
 use rsml_syntax::Relation;
+use spelled_numbers::SumTable;
 use std::alloc::Global;
 use world_levels::Layout;
 

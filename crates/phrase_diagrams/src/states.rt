@@ -9,8 +9,8 @@ ghost use Rattle.phrase_diagrams.specs.Active.{AreActive, SpellChoices};
 
 use crate::chosen::where_chosen;
 use bdd_core::{Arena, Ref};
-use linear_bits::SumTable;
 use rsml_base::NoMemory;
+use spelled_numbers::SumTable;
 use state_tree::Tree;
 use std::alloc::Global;
 use world_levels::{Layout, world_laws};

@@ -6,9 +6,9 @@ ghost use Rattle.phrase_diagrams.specs.Signs.{with_sign};
 ghost use Rattle.phrase_diagrams.specs.Terms.{term_levels, sum_levels};
 
 use crate::cells::cell_bits;
-use linear_bits::Weighted;
 use rsml_base::NoMemory;
 use rsml_ground::{GroundOperand, GroundSum, GroundTerm};
+use spelled_numbers::Weighted;
 use world_levels::Layout;
 
 /// Puts the levels of a sum at the end. Their weights add, or are taken off where `minus`, as the

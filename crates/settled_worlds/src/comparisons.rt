@@ -8,10 +8,10 @@ use crate::exact_keys::ExactKeys;
 use crate::one_key::key;
 use bdd_core::{Arena, Ref};
 use keyed_levels::KeyedLevels;
-use linear_bits::SumTable;
 use phrase_diagrams::compare;
 use rsml_base::NoMemory;
 use rsml_ground::GroundPhrase;
+use spelled_numbers::SumTable;
 use std::alloc::Global;
 
 /// The exact diagram of the key at a place. It is made where it has not been.

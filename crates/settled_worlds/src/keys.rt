@@ -14,8 +14,8 @@ use crate::reading::reads;
 use bdd_core::{Arena, Ref};
 use free_levels::make_exact;
 use keyed_levels::KeyedLevels;
-use linear_bits::SumTable;
 use rsml_base::NoMemory;
+use spelled_numbers::SumTable;
 use std::alloc::Global;
 
 /// Puts the comparison of the key at a place in place of its level, where the key is left.

@@ -9,8 +9,8 @@ ghost use Rattle.settled_worlds.specs.Settled.{cell_levels};
 
 use bdd_core::{Arena, Ref};
 use keyed_levels::KeyedLevels;
-use linear_bits::Weighted;
 use rsml_base::NoMemory;
+use spelled_numbers::Weighted;
 use std::alloc::Global;
 
 /// The levels of a cell, with their weights.

@@ -11,8 +11,8 @@ use crate::keys::make_rest_exact;
 use crate::sweeping::sweep_cells;
 use bdd_core::{Arena, Ref};
 use keyed_levels::{KeyedLevels, keyed_laws};
-use linear_bits::SumTable;
 use rsml_base::NoMemory;
+use spelled_numbers::SumTable;
 use std::alloc::Global;
 
 /// A function that is false everywhere exactly where `f` is false at all lawful values: where it tells nothing that is true of a

@@ -15,8 +15,8 @@ use crate::parts::forget_cell;
 use crate::striking::{strike, used_levels};
 use bdd_core::{Arena, Ref};
 use keyed_levels::KeyedLevels;
-use linear_bits::SumTable;
 use rsml_base::NoMemory;
+use spelled_numbers::SumTable;
 use std::alloc::Global;
 
 /// Cells swept, but one that is kept, until no key that is left reads one, or the function is false.

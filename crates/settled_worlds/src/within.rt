@@ -12,8 +12,8 @@ use crate::striking::{is_used, used_levels};
 use bdd_core::{Arena, Ref};
 use free_levels::compose;
 use keyed_levels::KeyedLevels;
-use linear_bits::SumTable;
 use rsml_base::NoMemory;
+use spelled_numbers::SumTable;
 use std::alloc::Global;
 
 /// `f` with the comparisons in place of their levels that name none but the first so many cells: at lawful values it is what it was.

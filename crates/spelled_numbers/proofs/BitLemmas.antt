@@ -3,8 +3,8 @@ use Rattle.std.proofs.Common.{◌≡◌, ℕ, zero, suc, ◌+◌, ◌<◌, ◌�
 use Rattle.std.proofs.lemmas.Int.{ints}
 use Rattle.std.proofs.lemmas.List.{drop_more}
 use Rattle.std.proofs.lemmas.List.Elements.{All-append, All-weaker}
-use Rattle.linear_bits.specs.declared.weighted.Weighted.{Weighted}
-use Rattle.linear_bits.specs.Sums.{signed_sum, weight_sum, total_weight}
+use Rattle.spelled_numbers.specs.declared.weighted.Weighted.{Weighted}
+use Rattle.spelled_numbers.specs.Sums.{signed_sum, weight_sum, total_weight}
 use Rattle.spelled_numbers.specs.declared.slot.Slot.{Slot}
 use Rattle.spelled_numbers.specs.declared.slot.Slot.TheVariants.{Part, Free}
 use Rattle.spelled_numbers.specs.Spelling.{total, number}

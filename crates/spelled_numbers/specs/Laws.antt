@@ -1,8 +1,8 @@
 -- The laws of spelling.
 use Rattle.std.specs.Prelude.{◌≡◌, ℕ, ◌<◌, ◌≤◌, Bool, false, List, ◌++◌, length, slice_get, slice_index_or, Some, sum, All, if◌then◌else◌, pos, neg_ℤ, ◌+ℤ◌}
 use Rattle.bdd_core.specs.Calls.{with_value}
-use Rattle.linear_bits.specs.declared.weighted.Weighted.{Weighted}
-use Rattle.linear_bits.specs.Sums.{signed_sum, weight_sum, total_weight}
+use Rattle.spelled_numbers.specs.declared.weighted.Weighted.{Weighted}
+use Rattle.spelled_numbers.specs.Sums.{signed_sum, weight_sum, total_weight}
 use Rattle.spelled_numbers.specs.declared.slot.Slot.{Slot}
 use Rattle.spelled_numbers.specs.declared.slot.Slot.TheVariants.{Free}
 use Rattle.spelled_numbers.specs.Weights.{IsCovering}

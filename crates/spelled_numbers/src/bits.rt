@@ -2,8 +2,8 @@
 ghost use Rattle.std.specs.Prelude.{◌≡◌, ◌^◌, ◌≤◌, length, IfOk};
 ghost use Rattle.spelled_numbers.specs.Bits.{bit_of, bits_of};
 
+use crate::Weighted;
 use crate::slot::Slot;
-use linear_bits::Weighted;
 use rsml_base::NoMemory;
 use std::alloc::Global;
 

@@ -1,6 +1,6 @@
 -- What is kept of the levels of a specification.
 use Rattle.std.specs.Prelude.{◌≡◌, ℕ, ◌+◌, ◌<◌, Bool, true, false, List, [], ◌++◌, length, option_to_list, slice_index_or}
-use Rattle.linear_bits.specs.declared.weighted.Weighted.{Weighted}
+use Rattle.spelled_numbers.specs.declared.weighted.Weighted.{Weighted}
 use Rattle.rsml_syntax.specs.declared.syntax.Spec.{Spec}
 use Rattle.rsml_meaning.specs.Instances.{components}
 use Rattle.rsml_meaning.specs.Cells.{cells}

@@ -3,9 +3,8 @@ ghost use Rattle.std.specs.Prelude.{◌≡◌, ◌^◌, ◌<◌, ◌≤◌, [], 
 ghost use Rattle.world_levels.specs.Spelling.{free_from};
 ghost use Rattle.world_levels.specs.Stored.{AddsBit, AreBits, is_free};
 
-use linear_bits::Weighted;
 use rsml_base::{List, NoMemory};
-use spelled_numbers::Slot;
+use spelled_numbers::{Slot, Weighted};
 use std::alloc::Global;
 
 /// The free levels, rising.

@@ -1,5 +1,5 @@
 use Rattle.std.proofs.Common.{◌≡◌, ◌+◌, drop}
-use Rattle.linear_bits.specs.Sums.{total_weight}
+use Rattle.spelled_numbers.specs.Sums.{total_weight}
 use Rattle.guard_encode.proofs.spelling.total.Given as goal
 
 abbrev pub invariant-loop-bit : goal.invariant-loop-bit

@@ -2,7 +2,7 @@ use Rattle.std.proofs.Common.{◌≡◌, leb, arith, pos, ◌-ℤ◌, ◌<ℤ◌
 use Rattle.std.proofs.lemmas.Int.{ints}
 use Rattle.std.proofs.lemmas.Result.{IfOk-weaker}
 use Rattle.bdd_core.specs.Calls.{Represents}
-use Rattle.linear_bits.specs.Sums.{weight_sum}
+use Rattle.spelled_numbers.specs.Sums.{weight_sum}
 use Rattle.world_levels.specs.Spelling.{cell_part}
 use Rattle.phrase_diagrams.proofs.TellLemmas.{part_levels, part_adds, part_small, bound_tells, never_below}
 use Rattle.phrase_diagrams.proofs.bounds.at_most.Goals as goal

@@ -1,7 +1,7 @@
 use Rattle.std.proofs.Common.{eqb}
 use Rattle.std.proofs.lemmas.Result.{IfOk-weaker}
 use Rattle.bdd_core.specs.Calls.{Represents}
-use Rattle.linear_bits.specs.Sums.{weight_sum}
+use Rattle.spelled_numbers.specs.Sums.{weight_sum}
 use Rattle.phrase_diagrams.proofs.TellLemmas.{part_levels, part_adds, part_small, choice_tells}
 use Rattle.phrase_diagrams.proofs.choices.choice.Goals as goal
 

@@ -2,7 +2,7 @@ use Rattle.std.proofs.Common.{◌≡◌, ◌++◌, true, false, sym, ap, subst, 
 use Rattle.std.proofs.lemmas.Int.{ints}
 use Rattle.std.proofs.lemmas.Result.{IfOk-weaker}
 use Rattle.bdd_core.specs.Calls.{Represents}
-use Rattle.linear_bits.specs.Sums.{signed_sum, total_weight, AreLevels, holds}
+use Rattle.spelled_numbers.specs.Sums.{signed_sum, total_weight, AreLevels, holds}
 use Rattle.phrase_diagrams.specs.Terms.{sum_base, sum_levels}
 use Rattle.phrase_diagrams.proofs.SumLemmas.{both_total, both_within}
 use Rattle.phrase_diagrams.proofs.TellLemmas.{are_levels}

@@ -3,8 +3,8 @@ use Rattle.std.proofs.lemmas.Int.{to_z-of_z}
 use Rattle.std.proofs.lemmas.List.Sorted.{All-permutation}
 use Rattle.std.proofs.lemmas.Result.{IfOk-weaker}
 use Rattle.bdd_core.specs.Calls.{Represents}
-use Rattle.linear_bits.specs.declared.weighted.Weighted.{Weighted}
-use Rattle.linear_bits.specs.Sums.{signed_sum, total_weight, AreLevels, holds}
+use Rattle.spelled_numbers.specs.declared.weighted.Weighted.{Weighted}
+use Rattle.spelled_numbers.specs.Sums.{signed_sum, total_weight, AreLevels, holds}
 use Rattle.phrase_diagrams.proofs.OrderLemmas.{signed_permuted, total_permuted}
 use Rattle.phrase_diagrams.proofs.levels.compare_levels.Goals as goal
 

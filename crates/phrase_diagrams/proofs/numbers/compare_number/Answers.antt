@@ -4,8 +4,8 @@ use Rattle.std.proofs.lemmas.Result.{IfOk-weaker}
 use Rattle.rsml_syntax.specs.declared.syntax.Relation.{Relation}
 use Rattle.rsml_syntax.specs.rules.Relations as relations
 use Rattle.bdd_core.specs.Calls.{Represents}
-use Rattle.linear_bits.specs.declared.weighted.Weighted.{Weighted}
-use Rattle.linear_bits.specs.Sums.{signed_sum, total_weight, AreLevels, holds}
+use Rattle.spelled_numbers.specs.declared.weighted.Weighted.{Weighted}
+use Rattle.spelled_numbers.specs.Sums.{signed_sum, total_weight, AreLevels, holds}
 use Rattle.phrase_diagrams.specs.Signs.{IsWithin}
 use Rattle.phrase_diagrams.specs.Terms.{sum_base, sum_levels}
 use Rattle.phrase_diagrams.proofs.SumLemmas.{terms_total, terms_within}

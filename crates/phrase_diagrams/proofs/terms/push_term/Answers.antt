@@ -1,7 +1,7 @@
 use Rattle.std.proofs.Common.{◌≡◌, Bool, true, false, not, if◌then◌else◌, map, List, ◌++◌, refl, sym, ap, ◌∙◌}
 use Rattle.std.proofs.lemmas.Result.{on_ok_weaker}
 use mathlib.Core.Bool.{beq}
-use Rattle.linear_bits.specs.declared.weighted.Weighted.{Weighted}
+use Rattle.spelled_numbers.specs.declared.weighted.Weighted.{Weighted}
 use Rattle.world_levels.specs.Spelling.{cell_part}
 use Rattle.phrase_diagrams.specs.Signs.{with_sign}
 use Rattle.phrase_diagrams.specs.Terms.{operand_levels}

@@ -1,6 +1,0 @@
-use Rattle.std.proofs.Common.{◌≡◌, ◌+◌, drop}
-use Rattle.linear_bits.specs.Sums.{total_weight}
-use Rattle.linear_bits.proofs.rooms.total_of.Given as goal
-
-abbrev pub invariant-loop-term : goal.invariant-loop-term
-invariant-loop-term l = l.total + total_weight (drop l.term-index l.terms) ≡ total_weight l.terms
