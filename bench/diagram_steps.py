@@ -5,8 +5,8 @@
     bench/diagram_steps.py --test COUNT PROGRAM    compares what a program answers to steps with reports, as `smt.py --test` does
 
 Its levels, their weights and their order are those of the crates `level_order`, `world_levels` and `spelled_numbers`, and the steps are
-those of `state_diagrams`, `phrase_diagrams`, `world_sums`, `guard_encode` and `group_verdicts`, one by one. Each line makes a function of
-earlier ones. They are numbered from 2 on; 0 is false and 1 is true.
+those of `phrase_diagrams`, `guard_encode` and `group_verdicts`, one by one. Each line makes a function of earlier ones. They are
+numbered from 2 on; 0 is false and 1 is true.
 
     levels N               how many levels there are
     sum ROOM L:W ..        the weights W of the levels L that are true sum to at most ROOM; of `-L:W` where the level is false
