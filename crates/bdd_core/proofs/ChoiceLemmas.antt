@@ -1,16 +1,11 @@
--- `if f then g else h`: the simple cases, the operands in another order, and a node over the choices of children.
+-- `if f then g else h`: the simple cases, and the operands in another order.
 use Rattle.std.proofs.Common.{◌≡◌, ℕ, Bool, true, false, if◌then◌else◌, refl, sym, ap, subst, ◌∙◌, arith}
 use Rattle.bdd_core.specs.Diagram.{Diagram, IsRef, level_of, meaning}
 use Rattle.bdd_core.specs.Calls.{Keeps}
-use Rattle.bdd_core.specs.Steps.{chosen, least_level, IsChoice, IsSameChoice, IsChildren, IsNode}
+use Rattle.bdd_core.specs.Steps.{chosen, IsChoice, IsSameChoice}
 use Rattle.bdd_core.proofs.MeaningLemmas.{meaning-false, meaning-true}
 use Rattle.bdd_core.proofs.CanonicalLemmas.{same_choice}
-use Rattle.bdd_core.proofs.StepLemmas.{keeps_trans, level-keeps, either}
-
--- a choice by a level, of choices
-split : (b fh fl gh gl hh hl : Bool) → (if b then (if fh then gh else hh) else (if fl then gl else hl)) ≡ (if (if b then fh else fl) then (if b then gh else gl) else (if b then hh else hl))
-split true fh fl gh gl hh hl = refl
-split false fh fl gh gl hh hl = refl
+use Rattle.bdd_core.proofs.StepLemmas.{level-keeps, either}
 
 pub chosen-keeps : (a b : Diagram) → Keeps a b → (f g h : ℕ) (v : ℕ → Bool) → IsRef a f → IsRef a g → IsRef a h → chosen b f g h v ≡ chosen a f g h v
 chosen-keeps a b k f g h v pf pg ph = same_choice _ _ _ _ _ _ (k.meanings_stay f v pf) (k.meanings_stay g v pg) (k.meanings_stay h v ph)
@@ -119,28 +114,6 @@ choice-from_same d f g h f2 g2 h2 r s c = record { is_ref = c.is_ref; means = λ
 
 pub choice-to_same : (d : Diagram) (f g h f2 g2 h2 r : ℕ) → IsSameChoice d f g h f2 g2 h2 → IsChoice d f g h r → IsChoice d f2 g2 h2 r
 choice-to_same d f g h f2 g2 h2 r s c = record { is_ref = c.is_ref; means = λ v. c.means v ∙ sym (s.means v); level = omega (arith, c.level, s.level) }
-
--- a node over the choices of the children is the choice
-pub choice-node : (a b c d : Diagram) (f g h level fl fh gl gh hl hh lo hi r : ℕ) → IsRef a f → IsRef a g → IsRef a h → level ≡ least_level a f g h
-    → IsChildren a f level fl fh → IsChildren a g level gl gh → IsChildren a h level hl hh
-    → Keeps a b → IsChoice b fl gl hl lo → Keeps b c → IsChoice c fh gh hh hi → Keeps c d → IsNode d level lo hi r
-    → IsChoice d f g h r
-choice-node a b c d f g h level fl fh gl gh hl hh lo hi r pf pg ph least cf cg ch ab low bc high cd node =
-    let ac : Keeps a c = keeps_trans a b c ab bc in
-    let ad : Keeps a d = keeps_trans a c d ac cd in
-    let bd : Keeps b d = keeps_trans b c d bc cd in
-    record {
-      is_ref = node.is_ref;
-      means = λ v.
-          node.means v
-          ∙ same_choice _ _ _ _ _ _ refl
-          (cd.meanings_stay hi v high.is_ref ∙ high.means v ∙ chosen-keeps a c ac fh gh hh v cf.high_ref cg.high_ref ch.high_ref)
-          (bd.meanings_stay lo v low.is_ref ∙ low.means v ∙ chosen-keeps a b ab fl gl hl v cf.low_ref cg.low_ref ch.low_ref)
-          ∙ split (v level) (meaning a fh v) (meaning a fl v) (meaning a gh v) (meaning a gl v) (meaning a hh v) (meaning a hl v)
-          ∙ sym (same_choice _ _ _ _ _ _ (cf.means v) (cg.means v) (ch.means v))
-          ∙ sym (chosen-keeps a d ad f g h v pf pg ph);
-      level = omega (arith, node.level_most, least, level-keeps a d ad f pf, level-keeps a d ad g pg, level-keeps a d ad h ph);
-    }
 
 -- the same choice, of places that are equal to these
 pub choice-at : (d : Diagram) (f f2 g g2 h h2 r r2 : ℕ) → f ≡ f2 → g ≡ g2 → h ≡ h2 → r2 ≡ r → IsChoice d f g h r → IsChoice d f2 g2 h2 r2

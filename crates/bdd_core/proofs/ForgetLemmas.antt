@@ -217,12 +217,15 @@ right-gains d levels old new more are gains ref right = record {
   right = λ x c. elim (gains x c) [ inl before ↦ are.right x before | inr same ↦ subst (λ (x : Kept). IsWithout d x.f levels x.answer) (sym same) right ];
 }
 
--- after room was made and an answer was kept
+-- after room was made
+pub right-room : (d : Diagram) (levels : List ℕ) (old mid : List Kept) → 2 ≤ length d.nodes → AreRight d levels old → GainsOnly old mid blank → AreRight d levels mid
+right-room d levels old mid two are room = right-gains d levels old mid blank are room (omega arith) (without-constant d 0 levels (omega arith) (omega arith))
+
+-- and an answer was kept
 pub right-kept : (d : Diagram) (levels : List ℕ) (old mid new : List Kept) (f answer : ℕ) → 2 ≤ length d.nodes → AreRight d levels old → GainsOnly old mid blank
     → GainsOnly mid new (record { f = f; g = 0; h = 0; answer = answer }) → IsRef d f → IsWithout d f levels answer → AreRight d levels new
 right-kept d levels old mid new f answer two are room gains ref right =
-    right-gains d levels mid new (record { f = f; g = 0; h = 0; answer = answer })
-    (right-gains d levels old mid blank are room (omega arith) (without-constant d 0 levels (omega arith) (omega arith))) gains ref right
+    right-gains d levels mid new (record { f = f; g = 0; h = 0; answer = answer }) (right-room d levels old mid two are room) gains ref right
 
 pub represents-forgotten : (old new : Diagram) → Keeps old new → (f : ℕ) (levels : List ℕ) (r : ℕ) → IsRef old f → IsWithout new f levels r → IsForgotten old new f levels r
 represents-forgotten old new k f levels r p w = record {

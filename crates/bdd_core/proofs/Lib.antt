@@ -12,4 +12,6 @@ pub mod SweepLemmas
 pub mod ChainLemmas
 pub mod SupportLemmas
 pub mod ForgetLemmas
+pub mod WaitingLemmas
+pub mod ChildLemmas
 mod KeptLemmas

@@ -1,5 +1,5 @@
 -- What is reached from a place: it stands no higher, and more nodes change nothing.
-use Rattle.std.proofs.Common.{◌≡◌, ℕ, ◌<◌, ◌≤◌, refl, ap, subst, arith, ◌⊎◌, inl, inr}
+use Rattle.std.proofs.Common.{◌≡◌, ℕ, ◌<◌, ◌≤◌, refl, sym, ap, subst, arith, ◌⊎◌, inl, inr}
 use Rattle.bdd_core.specs.declared.node.Node.{Node}
 use Rattle.bdd_core.specs.Diagram.{Diagram, IsRef, node_at, IsReduced, IsReducedNode}
 use Rattle.bdd_core.specs.Reach.{Reaches}
@@ -36,6 +36,20 @@ reach_back a b keeps is _ _ p (by_high f k two rest) =
     let same : (node_at b f).high ≡ (node_at a f).high = ap (λ (t : Node). t.high) (keeps.nodes_stay f p) in
     let within : IsRef a (node_at b f).high = omega (arith, r.high_before) in
     by_high f k two (subst (λ x. Reaches a x k) same (reach_back a b keeps is (node_at b f).high k within rest))
+
+-- and what was reached is reached among more nodes
+pub reach_on : (a b : Diagram) → Keeps a b → IsReduced a → (f k : ℕ) → IsRef a f → Reaches a f k → Reaches b f k
+reach_on a b keeps is _ _ p (here f) = here f
+reach_on a b keeps is _ _ p (by_low f k two rest) =
+    let r : IsReducedNode a f (node_at a f) = is.reduced f two p in
+    let same : (node_at a f).low ≡ (node_at b f).low = ap (λ (t : Node). t.low) (sym (keeps.nodes_stay f p)) in
+    let within : IsRef a (node_at a f).low = omega (arith, r.low_before) in
+    by_low f k two (subst (λ x. Reaches b x k) same (reach_on a b keeps is (node_at a f).low k within rest))
+reach_on a b keeps is _ _ p (by_high f k two rest) =
+    let r : IsReducedNode a f (node_at a f) = is.reduced f two p in
+    let same : (node_at a f).high ≡ (node_at b f).high = ap (λ (t : Node). t.high) (sym (keeps.nodes_stay f p)) in
+    let within : IsRef a (node_at a f).high = omega (arith, r.high_before) in
+    by_high f k two (subst (λ x. Reaches b x k) same (reach_on a b keeps is (node_at a f).high k within rest))
 
 -- what is reached is the start, or a child of what is reached
 pub reach_last : (d : Diagram) → IsReduced d → (f k : ℕ) → IsRef d f → Reaches d f k → (f ≡ k) ⊎ ((p : ℕ) × Reaches d f p × IsChild d p k)

@@ -6,3 +6,5 @@ pub mod Chains
 pub mod Unique
 pub mod Holds
 pub mod Sweep
+pub mod Waiting
+pub mod Children

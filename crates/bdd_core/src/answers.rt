@@ -2,7 +2,11 @@ ghost use Rattle.std.specs.Prelude.{◌≡◌, [], IfSome, Contains};
 ghost use Rattle.bdd_core.specs.Steps.{GainsOnly, blank};
 
 use crate::computed::{Computed, Kept};
+use rsml_base::NoMemory;
 use std::alloc::Global;
+
+/// How many slots a table has at most: they take 0.27 GB.
+const MOST_SLOTS: usize = 1 << 24;
 
 /// The answers of one call that asks of places alone: a computed table that grows with the number
 /// of answers.
@@ -32,13 +36,13 @@ impl Answers {
         self.table.find(f, 0, 0)
     }
 
-    /// Makes room for one more answer, where there is memory for it.
+    /// Makes room for one more answer. It is an error where memory is refused and there are no slots.
     #[inline(always)]
-    pub(crate) fn make_room(&mut self)
+    pub(crate) fn make_room(&mut self) -> Result<(), NoMemory>
         ensures { GainsOnly self.old.table.slots.items self.new.table.slots.items blank }
     {
-        self.count = self.count.saturating_add(1);
-        self.table.make_room(self.count);
+        self.count = self.count.saturating_add(1).min(MOST_SLOTS);
+        self.table.make_room(self.count)
     }
 
     /// Keeps the answer for a place.

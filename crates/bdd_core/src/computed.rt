@@ -2,6 +2,7 @@
 ghost use Rattle.std.specs.Prelude.{◌≡◌, [], length, IfSome, Contains};
 ghost use Rattle.bdd_core.specs.Steps.{GainsOnly, blank};
 
+use rsml_base::NoMemory;
 use std::alloc::Global;
 
 /// The answer to a question, which three numbers name.
@@ -71,25 +72,33 @@ impl Computed {
         }
     }
 
-    /// Gives the table more slots where it has fewer than there are nodes and there is memory for
-    /// it. It keeps its answers.
+    /// Gives the table more slots where it has fewer than there are nodes. It keeps its answers.
+    /// Where memory is refused it goes on with the slots that it has, and it is an error to have none:
+    /// without answers the work would be exponential.
     #[inline(always)]
-    pub(crate) fn make_room(&mut self, nodes: usize)
+    pub(crate) fn make_room(&mut self, nodes: usize) -> Result<(), NoMemory>
         ensures { GainsOnly self.old.slots.items self.new.slots.items blank }
     {
         if self.slots.len() < nodes {
-            self.widen();
+            self.widen()
+        } else {
+            Ok(())
         }
     }
 
     #[inline(never)]
-    fn widen(&mut self)
+    fn widen(&mut self) -> Result<(), NoMemory>
         ensures { GainsOnly self.old.slots.items self.new.slots.items blank }
     {
         let before = self.slots.len();
         let room = before.saturating_mul(2).max(FIRST_SLOTS);
         if self.slots.resize(room, BLANK).is_ok() {
             self.spread(before);
+            Ok(())
+        } else if before > 0 {
+            Ok(())
+        } else {
+            Err(NoMemory)
         }
     }
 

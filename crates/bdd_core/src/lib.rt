@@ -5,6 +5,7 @@ mod answers;
 mod arena;
 mod branch;
 mod computed;
+mod frame;
 mod marks;
 mod node;
 mod reference;

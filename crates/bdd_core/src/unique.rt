@@ -13,6 +13,12 @@ use std::marker::Model;
 /// How many buckets a table begins with.
 const FIRST_BUCKETS: usize = 64;
 
+/// How many nodes a table has at most. At 2^26 an arena takes 2.7 GB: 16 bytes for each node, 4 for
+/// its bucket, 16 for a kept choice and 4 for kept cuts. It takes most, 3.1 GB, when the table of
+/// choices grows to that size and the one of half of it still stands. Lists that double are full
+/// at a power of two.
+const MOST_NODES: usize = 1 << 26;
+
 /// A unique table: the nodes in the order of their places, of which the first two are the constants.
 /// Each other node is in a bucket, whose nodes are a chain from the last of them down. Contracts see
 /// it as the list of its nodes.
@@ -81,16 +87,17 @@ impl Unique {
         find_in(self.entries.as_slice(), self.heads.as_slice(), node)
     }
 
-    /// Puts a node at the end, and answers its place.
+    /// Puts a node at the end, and answers its place. Memory is refused to more than `MOST_NODES`.
     pub(crate) fn push(&mut self, node: Node) -> Result<u32, NoMemory>
         requires { IsNew self.old node }
         ensures place { IfOk result (λ place. slice_get self.new place ≡ Some node) }
         ensures adds { Adds self.old self.new node }
     {
-        self.make_room();
-        let Ok(place) = u32::try_from(self.entries.len()) else {
+        if self.entries.len() >= MOST_NODES {
             return Err(NoMemory);
-        };
+        }
+        self.make_room();
+        let place = self.entries.len() as u32;
         self.entries.push(Entry { node, next: 0 })?;
         link(&mut self.entries, &mut self.heads, place);
         Ok(place)

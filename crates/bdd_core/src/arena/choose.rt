@@ -1,12 +1,14 @@
-//! The calls that combine functions, all of them by one recursion: `if f then g else h`.
-ghost use Rattle.std.specs.Prelude.{◌≡◌, ◌≢◌, ℕ, ◌+◌, ◌*◌, ◌<◌, ◌≤◌, Bool, not, ◌&&◌, ◌||◌, if◌then◌else◌, length, IfOk, IfSome, IfNone};
+//! The calls that combine functions, all of them by one: `if f then g else h`.
+ghost use Rattle.std.specs.Prelude.{◌≡◌, ◌≢◌, ℕ, ◌+◌, ◌*◌, ◌<◌, ◌≤◌, Bool, true, false, not, ◌&&◌, ◌||◌, if◌then◌else◌, length, IfOk, IfSome, IfNone};
 ghost use Rattle.bdd_core.specs.Diagram.{Diagram, IsRef, meaning};
 ghost use Rattle.bdd_core.specs.Reach.{IsSize};
 ghost use Rattle.bdd_core.specs.Calls.{Keeps, Represents, AddsConjunctions};
 ghost use Rattle.bdd_core.specs.Steps.{IsChoice, IsSameChoice};
+ghost use Rattle.bdd_core.specs.Waiting.{question, Path, IsPart, IsHalf, IsOpen, AsksChoice, HasAnswer, Leads, fours, weight, work};
 
 use super::Arena;
 use crate::computed::Kept;
+use crate::frame::Frame;
 use crate::node::{FALSE, TRUE};
 use crate::reference::Ref;
 use rsml_base::NoMemory;
@@ -85,7 +87,8 @@ impl Arena {
         Ok(Ref::at(place))
     }
 
-    /// It calls itself once a level.
+    /// A choice that is not answered at once waits in a list for the answers of its children, so the
+    /// depth of a function takes no stack.
     pub(super) fn choose(&mut self, f: u32, g: u32, h: u32) -> Result<u32, NoMemory>
         requires f_ref { IsRef self.old f }
         requires g_ref { IsRef self.old g }
@@ -94,20 +97,118 @@ impl Arena {
         ensures choice { IfOk result (λ r. IsChoice self.new f g h r) }
         ensures added { h ≡ 0 → AddsConjunctions self.old self.new f g }
     {
+        self.laws();
+        let mut waiting = Vec::new(self.allocator());
+        let mut answer = self.descend(f, g, h, &mut waiting)?;
+        while let Some(frame) = waiting.pop() {
+            answer = self.resume(frame, answer, &mut waiting)?;
+        }
+        Ok(answer)
+    }
+
+    /// Goes on with the choice of a frame by the answer of the child that it waits for: asks its high
+    /// child, or answers it.
+    fn resume(
+        &mut self,
+        frame: Frame,
+        answer: u32,
+        waiting: &mut Vec<Frame>,
+    ) -> Result<u32, NoMemory>
+        requires { HasAnswer self.old frame answer }
+        ensures keeps { Keeps self.old self.new }
+        ensures leads { IfOk result (λ r. (first : ℕ × ℕ × ℕ)
+            → Path (AsksChoice self.old) first waiting.old.items (question frame)
+            → Leads self.new first waiting.new.items r) }
+        ensures added { (k : ℕ) → length self.old.nodes ≤ k → IsRef self.new k
+            → IsChoice self.new frame.f frame.g frame.h k }
+        ensures less { IfOk result (λ _. work waiting.new.items < work waiting.old.items + weight frame) }
+    {
+        self.laws();
+        let Some(low) = frame.low else {
+            waiting.push(Frame {
+                f: frame.f,
+                g: frame.g,
+                h: frame.h,
+                low: Some(answer),
+            })?;
+            let (f, g, h) = self.part(frame.f, frame.g, frame.h, true);
+            return self.descend(f, g, h, waiting);
+        };
+        self.joined_choice(frame, low, answer)
+    }
+
+    /// Goes down the low children to a choice that is answered at once. Those above it wait.
+    fn descend(&self, f: u32, g: u32, h: u32, waiting: &mut Vec<Frame>) -> Result<u32, NoMemory>
+        requires f_ref { IsRef self.now f }
+        requires g_ref { IsRef self.now g }
+        requires h_ref { IsRef self.now h }
+        ensures leads { IfOk result (λ r. (first : ℕ × ℕ × ℕ)
+            → Path (AsksChoice self.now) first waiting.old.items (f, g, h)
+            → Leads self.now first waiting.new.items r) }
+        ensures most { IfOk result (λ _. work waiting.new.items
+            ≤ work waiting.old.items + 2 * fours (f + g + h)) }
+    {
+        let mut asked = (f, g, h);
+        'down: loop {
+            let (f, g, h) = asked;
+            if let Some(answer) = self.at_once(f, g, h) {
+                return Ok(answer);
+            }
+            waiting.push(Frame { f, g, h, low: None })?;
+            asked = self.part(f, g, h, false);
+        }
+    }
+
+    /// The answer of a choice that is simple or was kept.
+    #[inline(always)]
+    fn at_once(&self, f: u32, g: u32, h: u32) -> Option<u32>
+        requires f_ref { IsRef self.now f }
+        requires g_ref { IsRef self.now g }
+        requires h_ref { IsRef self.now h }
+        ensures right { IfSome result (λ r. IsChoice self.now f g h r) }
+        ensures open { IfNone result (2 ≤ f) }
+    {
         if let Some(answer) = simple(f, g, h) {
-            return Ok(answer);
+            return Some(answer);
         }
-        if let Some(answer) = self.known(f, g, h) {
-            return Ok(answer);
-        }
+        self.known(f, g, h)
+    }
+
+    /// What the choice asks where its least level has a value.
+    #[inline(always)]
+    fn part(&self, f: u32, g: u32, h: u32, value: bool) -> (u32, u32, u32)
+        requires f_ref { IsRef self.now f }
+        requires g_ref { IsRef self.now g }
+        requires h_ref { IsRef self.now h }
+        requires two { 2 ≤ f }
+        ensures part { IsPart self.now f g h value result }
+        ensures falls { result.0 + result.1 + result.2 < f + g + h }
+    {
         let level = self.level(f).min(self.level(g)).min(self.level(h));
         let (f_low, f_high) = self.children(f, level);
         let (g_low, g_high) = self.children(g, level);
         let (h_low, h_high) = self.children(h, level);
-        let low = self.choose(f_low, g_low, h_low)?;
-        let high = self.choose(f_high, g_high, h_high)?;
+        if value {
+            (f_high, g_high, h_high)
+        } else {
+            (f_low, g_low, h_low)
+        }
+    }
+
+    /// The choice of a frame by the answers of its children, which is kept.
+    fn joined_choice(&mut self, frame: Frame, low: u32, high: u32) -> Result<u32, NoMemory>
+        requires open { IsOpen self.old frame }
+        requires low { IsHalf self.old frame.f frame.g frame.h false low }
+        requires high { IsHalf self.old frame.f frame.g frame.h true high }
+        ensures keeps { Keeps self.old self.new }
+        ensures choice { IfOk result (λ r. IsChoice self.new frame.f frame.g frame.h r) }
+        ensures added { (k : ℕ) → length self.old.nodes ≤ k → IsRef self.new k
+            → IsChoice self.new frame.f frame.g frame.h k }
+    {
+        let Frame { f, g, h, low: _ } = frame;
+        let level = self.level(f).min(self.level(g)).min(self.level(h));
         let answer = self.make(level, low, high)?;
-        self.note(f, g, h, answer);
+        self.note(f, g, h, answer)?;
         Ok(answer)
     }
 
@@ -123,31 +224,31 @@ impl Arena {
         self.choices.find(f, g, h)
     }
 
-    /// Keeps the answer of a choice. It is no part of the recursion, which would keep the slot on its
-    /// stack at each level.
-    #[inline(never)]
-    fn note(&mut self, f: u32, g: u32, h: u32, answer: u32)
+    /// Keeps the answer of a choice.
+    #[inline(always)]
+    fn note(&mut self, f: u32, g: u32, h: u32, answer: u32) -> Result<(), NoMemory>
         requires f_ref { IsRef self.old f }
         requires g_ref { IsRef self.old g }
         requires h_ref { IsRef self.old h }
         requires right { IsChoice self.old f g h answer }
         ensures { self.new ≡ self.old }
     {
-        self.make_room_for_choices();
+        self.make_room_for_choices()?;
         let (f, g, h) = ordered(f, g, h);
         self.choices.keep(Kept { f, g, h, answer });
+        Ok(())
     }
 
-    /// Gives the table of choices as many slots as there are nodes, where there is memory for it.
+    /// Gives the table of choices as many slots as there are nodes.
     #[inline(always)]
-    fn make_room_for_choices(&mut self)
+    fn make_room_for_choices(&mut self) -> Result<(), NoMemory>
         ensures { self.new ≡ self.old }
     {
-        self.choices.make_room(self.nodes.len());
+        self.choices.make_room(self.nodes.len())
     }
 }
 
-/// The answer of a choice that needs no recursion.
+/// The answer of a choice that asks nothing of its children.
 #[inline(always)]
 fn simple(f: u32, g: u32, h: u32) -> Option<u32>
     ensures right { IfSome result (λ r. (d : Diagram) → IsRef d f → IsRef d g → IsRef d h

@@ -1,6 +1,6 @@
 //! Nodes, by their places.
 ghost use Rattle.std.specs.Prelude.{◌≡◌, ℕ, ◌<◌, ◌≤◌, length, IfOk};
-ghost use Rattle.bdd_core.specs.Diagram.{IsRef, IsReduced, level_of};
+ghost use Rattle.bdd_core.specs.Diagram.{IsRef, IsReduced, node_at, level_of};
 ghost use Rattle.bdd_core.specs.Calls.{Keeps};
 ghost use Rattle.bdd_core.specs.Steps.{IsChildren, IsNode};
 
@@ -48,6 +48,17 @@ impl Arena {
         } else {
             (f, f)
         }
+    }
+
+    /// The children of a node.
+    #[inline(always)]
+    pub(super) fn own_children(&self, f: u32) -> (u32, u32)
+        requires { IsRef self.now f }
+        ensures low { result.0 ≡ (node_at self.now f).low }
+        ensures high { result.1 ≡ (node_at self.now f).high }
+    {
+        let node = self.nodes.node(f as usize);
+        (node.low, node.high)
     }
 
     /// The place of a node, which is made where there is none, and where its children differ.
