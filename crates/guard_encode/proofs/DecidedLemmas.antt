@@ -3,11 +3,11 @@ use Rattle.std.proofs.Common.{◌≡◌, ◌==◌, ℕ, Bool, true, false, lengt
 use Rattle.std.proofs.lemmas.Bool.Decides.{nat_tests}
 use Rattle.rsml_syntax.specs.declared.world.World.{World}
 use Rattle.rsml_meaning.specs.Worlds.{IsWorld}
-use Rattle.bdd_core.specs.Diagram.{meaning}
+use Rattle.bdd_core.specs.Diagram.{Diagram, meaning}
 use Rattle.elaborate.specs.Machine.{GroundMachine}
-use Rattle.keyed_levels.specs.Keyed.{AreKeyed, world_at}
+use Rattle.keyed_levels.specs.Keyed.{KeyedWorlds, AreKeyed, world_at}
 use Rattle.keyed_levels.specs.Laws.{FalseInAllWorlds, LawfulValuesSpellWorlds}
-use Rattle.settled_worlds.specs.Settled.{IsSettled}
+use Rattle.settled_worlds.specs.Settled.{IsSameLawfully, IsSettled}
 use Rattle.guard_encode.specs.Encoding.{Encoding, Keeps, Tells, TellsExactly, worlds_of}
 use Rattle.guard_encode.proofs.StepLemmas.{told_on}
 
@@ -62,3 +62,13 @@ exact_somewhere all e n truth f s keeps keyed settled is_not told =
             absurd (is_not (settled.none.1 ((all e.diagram (worlds_of e) truth f keyed told).1 world))),
       );
     }
+
+-- a function settled that is the same at lawful values
+pub same_settled : (a b d : Diagram) (k : KeyedWorlds) (f g r : ℕ) → IsSameLawfully a b k f g → IsSettled b d k g r → IsSettled a d k f r
+same_settled a b d k f g r same settled = record {
+  is_ref = settled.is_ref;
+  none = (
+    λ never v lawful. sym (same.same v lawful) ∙ settled.none.0 never v lawful,
+    λ never. settled.none.1 (λ v lawful. same.same v lawful ∙ never v lawful),
+  );
+}

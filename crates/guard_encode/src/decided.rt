@@ -10,7 +10,7 @@ use crate::encoder::Encoder;
 use bdd_core::Ref;
 use keyed_levels::keyed_laws;
 use rsml_base::NoMemory;
-use settled_worlds::settle;
+use settled_worlds::{settle, without_conflicts};
 use std::alloc::Global;
 use world_levels::world_laws;
 
@@ -47,20 +47,22 @@ impl<'m, 'a> Encoder<'m, 'a> {
         self.levels.keys().is_empty() || self.arena.is_false(f)
     }
 
-    /// A function that is false everywhere exactly where `f` is false at all lawful values.
+    /// A function that is false everywhere exactly where `f` is false at all lawful values. Where comparisons contradict one another
+    /// by arithmetic alone, nothing has to be made exact.
     fn settled(&mut self, alloc: Global, f: Ref) -> Result<Ref, NoMemory>
         requires { IsRef self.old.diagram f }
         ensures keeps { Keeps self.old self.new }
         ensures keyed { AreKeyed (worlds_of self.old) }
         ensures answer { IfOk result (IsSettled self.old.diagram self.new.diagram (worlds_of self.old) f) }
     {
+        let rest = without_conflicts(alloc, &mut self.arena, &self.levels, f)?;
         settle(
             alloc,
             &mut self.arena,
             &mut self.sums,
             &self.levels,
             &mut self.exact,
-            f,
+            rest,
         )
     }
 }

@@ -5,3 +5,7 @@ pub mod StepLemmas
 pub mod EndLemmas
 pub mod VisitLemmas
 pub mod SameLemmas
+pub mod PathLemmas
+pub mod RowLemmas
+pub mod RangeLemmas
+pub mod ConflictLemmas

@@ -1,3 +1,4 @@
+pub mod Conflicts
 pub mod Settled
 pub mod Steps
 pub mod Visits

@@ -1,0 +1,3 @@
+pub mod ProductLemmas
+pub mod CombinationLemmas
+pub mod RowLemmas

@@ -1,0 +1,17 @@
+//! Linear inequalities over whole numbers, and those among them that contradict each other.
+#![tactic(auto)]
+
+mod combination;
+mod conflicts;
+mod line;
+mod multiplier;
+mod range;
+mod row;
+mod simplex;
+mod term;
+mod variable;
+
+pub use conflicts::conflict;
+pub use range::Range;
+pub use row::Row;
+pub use term::Term;
