@@ -3,14 +3,13 @@ use Rattle.std.proofs.Common.{◌≡◌, ℕ, zero, suc, ◌+◌, ◌<◌, ◌�
 use Rattle.std.specs.List.{list_any, All}
 use Rattle.std.specs.Option.{option_map_or, IfSome}
 use Rattle.std.proofs.lemmas.Bool.{eqb-true}
-use Rattle.std.proofs.lemmas.Option.{same_Some}
+use Rattle.std.proofs.lemmas.Option.{same_Some, slice_get_read}
 use Rattle.std.proofs.lemmas.List.{take_more, take_all, map_push, length_push}
 use Rattle.std.proofs.lemmas.List.Elements.{All-push}
 use Rattle.rsml_syntax.specs.declared.world.World.{World}
 use Rattle.rsml_meaning.specs.Instances.{components, events}
 use Rattle.rsml_meaning.specs.Worlds.{IsWorld}
-use Rattle.state_tree.proofs.Lists.{get_within, within_get, beside}
-use Rattle.state_tree.proofs.Kin.{get_index}
+use Rattle.state_tree.proofs.Lists.{get_within, beside}
 use Rattle.rsml_meaning.specs.Transitions.{transitions}
 use Rattle.rsml_meaning.specs.Interfaces.{send_cases}
 use Rattle.and_or_tables.specs.Ground.{known}
@@ -26,9 +25,10 @@ use Rattle.elaborate.specs.Machine.{GroundMachine, StandsFor}
 use Rattle.elaborate.specs.OnEvents.{places_of}
 use Rattle.elaborate.specs.Enabled.{is_enabled, is_sending}
 use Rattle.micro_step.specs.declared.candidates.Candidate.{Candidate}
+use Rattle.micro_step.specs.declared.prepared.Prepared.{Prepared}
 use Rattle.macros.specs.declared.asked.Asked.{Asked}
 use Rattle.macros.specs.Asked.{AsksFor}
-use Rattle.micro_step.specs.Candidates.{Fits, HasGuardOf, TellsOf, AreFor, AreOnEvents, is_met}
+use Rattle.micro_step.specs.Candidates.{Fits, HasGuardOf, TellsOf, AreFor, IsPrepared, ArePrepared, is_met}
 use Rattle.rsml_ground.specs.Choices.{AreOfComponents, TellActivity, are_chosen}
 use Rattle.micro_step.specs.Places.{passes}
 use Rattle.micro_step.specs.Rising.{among}
@@ -82,26 +82,9 @@ fits_of m test xs numbers cs for = λ k d l. (for.each k d l).fits
 pub below_of : {A : Type 0} (m : GroundMachine) (test : World → A → Bool) (xs : List A) (numbers : List ℕ) (cs : List Candidate) (n : ℕ) → n ≡ length xs → AreFor m test xs numbers cs → All (λ c. c.number < n) cs
 below_of m test xs numbers cs n e for = λ k d l. let b = (for.each k d l).below in omega (arith, b, e)
 
--- the list of an event
-get_at : {A : Type 0} (xs : List A) (k : ℕ) (x : A) → k < length xs → x ≡ slice_index_or xs k x → slice_get xs k ≡ Some x
-get_at xs k x l e = let r = within_get xs k l in r.1 ∙ ap (λ y. Some y) (sym (e ∙ get_index xs k r.0 x r.1))
-
-get_mapped : {A B : Type 0} (f : A → B) (xs : List A) (k : ℕ) (x : A) → slice_get xs k ≡ Some x → slice_get (map f xs) k ≡ Some (f x)
-get_mapped f [] k x e = absurd (let no : ⊥ = cc in no)
-get_mapped f (y ∷ xs) zero x e = ap (λ z. Some (f z)) (same_Some y x e)
-get_mapped f (y ∷ xs) (suc k) x e = get_mapped f xs k x e
-
-map_long : {A B : Type 0} (f : A → B) (xs : List A) → length (map f xs) ≡ length xs
-map_long f [] = refl
-map_long f (x ∷ xs) = ap suc (map_long f xs)
-
-pub for_event : {A B : Type 0} (m : GroundMachine) (test : World → A → Bool) (xs : List A) (numbers : ℕ → List ℕ) (f : B → List Candidate) (lists : List B) (event : ℕ) (v : B)
-    → AreOnEvents m test xs numbers (map f lists) → event < length lists → v ≡ slice_index_or lists event v → AreFor m test xs (numbers event) (f v)
-for_event m test xs numbers f lists event v all l e = all.each event (f v) (get_mapped f lists event v (get_at lists event v l e))
-
-pub event_within : {A B : Type 0} (m : GroundMachine) (test : World → A → Bool) (xs : List A) (numbers : ℕ → List ℕ) (f : B → List Candidate) (lists : List B) (event : ℕ)
-    → AreOnEvents m test xs numbers (map f lists) → event < length (events m.base.spec) → event < length lists
-event_within m test xs numbers f lists event all l = let e = all.many in let d = map_long f lists in omega (arith, l, e, d)
+-- what is prepared for an event
+pub prepared_at : (m : GroundMachine) (ps : List Prepared) (event : ℕ) (p : Prepared) → ArePrepared m ps → event < length (events m.base.spec) → p ≡ slice_index_or ps event p → IsPrepared m event p
+prepared_at m ps event p all l e = all.each event p (slice_get_read ps (length (events m.base.spec)) event p (sym all.many) l e)
 
 -- Candidates are prepared.
 
@@ -170,10 +153,10 @@ for_none m test xs numbers cs e = record {
 pub for_all : {A : Type 0} (m : GroundMachine) (test : World → A → Bool) (xs : List A) (numbers : List ℕ) (i : ℕ) (cs : List Candidate) → length numbers ≤ i → AreFor m test xs (take i numbers) cs → AreFor m test xs numbers cs
 for_all m test xs numbers i cs l for = subst (λ (ns : List ℕ). AreFor m test xs ns cs) (take_all i numbers l) for
 
--- Lists for the first events: one for each.
-pub record AreFirst {A : Type 0} (m : GroundMachine) (test : World → A → Bool) (xs : List A) (numbers : ℕ → List ℕ) (count : ℕ) (lists : List (List Candidate)) : Type 0 where
-  pub many : length lists ≡ count
-  pub each : (event : ℕ) (cs : List Candidate) → slice_get lists event ≡ Some cs → AreFor m test xs (numbers event) cs
+-- What is prepared for the first events.
+pub record AreFirst (m : GroundMachine) (count : ℕ) (ps : List Prepared) : Type 0 where
+  pub many : length ps ≡ count
+  pub each : (event : ℕ) (p : Prepared) → slice_get ps event ≡ Some p → IsPrepared m event p
 
 at_push : {A : Type 0} (xs : List A) (y : A) (i : ℕ) (x : A) → slice_get (xs ++ y ∷ []) i ≡ Some x → (slice_get xs i ≡ Some x) ⊎ ((i ≡ length xs) × (y ≡ x))
 at_push [] y zero x e = inr (refl, same_Some y x e)
@@ -181,23 +164,21 @@ at_push [] y (suc i) x e = absurd (let no : ⊥ = cc in no)
 at_push (z ∷ xs) y zero x e = inl e
 at_push (z ∷ xs) y (suc i) x e = ⊎_elim (λ l. inl l) (λ r. inr (ap suc r.0, r.1)) (at_push xs y i x e)
 
-pub first_none : {A : Type 0} (m : GroundMachine) (test : World → A → Bool) (xs : List A) (numbers : ℕ → List ℕ) (lists : List (List Candidate)) → lists ≡ [] → AreFirst m test xs numbers 0 lists
-first_none m test xs numbers lists e = record {
+pub first_none : (m : GroundMachine) (ps : List Prepared) → ps ≡ [] → AreFirst m 0 ps
+first_none m ps e = record {
   many = ap length e;
-  each = λ event cs at. absurd (let no : ⊥ = (let k = ap (λ (ls : List (List Candidate)). slice_get ls event) (sym e) ∙ at in cc) in no);
+  each = λ event p at. absurd (let no : ⊥ = (let k = ap (λ (qs : List Prepared). slice_get qs event) (sym e) ∙ at in cc) in no);
 }
 
--- one more list
-pub first_more : {A : Type 0} (m : GroundMachine) (test : World → A → Bool) (xs : List A) (numbers : ℕ → List ℕ) (count : ℕ) (lists new : List (List Candidate)) (cs : List Candidate)
-    → new ≡ lists ++ cs ∷ [] → AreFor m test xs (numbers count) cs → AreFirst m test xs numbers count lists → AreFirst m test xs numbers (count + 1) new
-first_more m test xs numbers count lists new cs is for first = record {
-  many = ap length is ∙ length_push lists cs ∙ ap (λ n. n + 1) first.many;
-  each = λ event ds at. ⊎_elim
-      (λ l. first.each event ds l)
-      (λ r. subst (λ k. AreFor m test xs (numbers k) ds) (sym (r.0 ∙ first.many)) (subst (AreFor m test xs (numbers count)) r.1 for))
-      (at_push lists cs event ds (ap (λ (ls : List (List Candidate)). slice_get ls event) (sym is) ∙ at));
+-- one more event
+pub first_more : (m : GroundMachine) (count : ℕ) (ps new : List Prepared) (p : Prepared) → new ≡ ps ++ p ∷ [] → IsPrepared m count p → AreFirst m count ps → AreFirst m (count + 1) new
+first_more m count ps new p is prepared first = record {
+  many = ap length is ∙ length_push ps p ∙ ap (λ n. n + 1) first.many;
+  each = λ event q at. ⊎_elim
+      (λ l. first.each event q l)
+      (λ r. subst (λ k. IsPrepared m k q) (sym (r.0 ∙ first.many)) (subst (IsPrepared m count) r.1 prepared))
+      (at_push ps p event q (ap (λ (qs : List Prepared). slice_get qs event) (sym is) ∙ at));
 }
 
-pub first_all : {A : Type 0} (m : GroundMachine) (test : World → A → Bool) (xs : List A) (numbers : ℕ → List ℕ) (count : ℕ) (lists : List (List Candidate)) → count ≡ length (events m.base.spec)
-    → AreFirst m test xs numbers count lists → AreOnEvents m test xs numbers lists
-first_all m test xs numbers count lists e first = record { many = first.many ∙ e; each = first.each }
+pub first_all : (m : GroundMachine) (count : ℕ) (ps : List Prepared) → count ≡ length (events m.base.spec) → AreFirst m count ps → ArePrepared m ps
+first_all m count ps e first = record { many = first.many ∙ e; each = first.each }

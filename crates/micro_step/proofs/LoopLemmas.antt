@@ -1,12 +1,13 @@
 -- One turn of each loop, and what is there for it.
 use Rattle.std.proofs.Common.{◌≡◌, ℕ, zero, suc, ◌+◌, ◌<◌, ◌≤◌, ◌==◌, ◌||◌, Bool, true, false, List, [], ◌∷◌, ◌++◌, map, fold, take, drop, length, replicate, get_or, set, Some, None, Option, if◌then◌else◌, slice_get, ℤ, ⊎_elim, refl, sym, ap, ◌∙◌, subst, true≢false, arith}
-use Rattle.std.specs.List.{list_any, AllZip}
+use Rattle.std.specs.List.{AllZip}
 use Rattle.std.specs.Option.{option_map_or}
 use Rattle.std.proofs.lemmas.Bool.{cases_eq}
 use Rattle.std.specs.Cmp.{nat_eq_equiv}
-use Rattle.std.proofs.lemmas.List.{take_more}
+use Rattle.std.proofs.lemmas.List.{take_more, length-map, length-replicate, get_or-map}
+use Rattle.std.proofs.lemmas.List.Folds.{list_any_more}
 use Rattle.state_tree.proofs.Kin.{get_index}
-use Rattle.std.proofs.lemmas.Option.{same_Some}
+use Rattle.std.proofs.lemmas.Option.{get_or_from_slice_get}
 use Rattle.rsml_syntax.specs.declared.world.World.{World}
 use Rattle.rsml_syntax.specs.declared.syntax.Value.{Value}
 use Rattle.rsml_syntax.specs.declared.syntax.Value.TheVariants as values
@@ -34,7 +35,6 @@ use Rattle.macros.specs.Known.{Knows}
 use Rattle.micro_step.specs.Rising.{among}
 use Rattle.micro_step.specs.Places.{passes, places_where}
 use Rattle.micro_step.specs.Numbers.{raised_at, value_number, values_of, case_numbers, AreOfCase, HaveRoom, ValueFits, picked}
-use Rattle.micro_step.proofs.RisingLemmas.{or_group, no_more}
 use Rattle.micro_step.proofs.PlaceLemmas.{among_places}
 
 -- Numbers on an event.
@@ -87,21 +87,16 @@ each_at P (n ∷ ks) (suc i) k e l q = each_at P ks i k e.1 (omega (arith, l)) q
 
 -- Raised events.
 
-any_last : {A : Type 0} (t : A → Bool) (xs : List A) (x : A) → list_any t (xs ++ x ∷ []) ≡ (list_any t xs || t x)
-any_last t [] x = no_more (t x)
-any_last t (y ∷ xs) x = ap (λ (b : Bool). t y || b) (any_last t xs x) ∙ or_group (t y) (list_any t xs) (t x)
-
 -- one more of the events of a list
 pub listed_more : (ks : List ℕ) (i k q : ℕ) → i < length ks → k ≡ get_or ks i 0 → among (take (i + 1) ks) q ≡ (among (take i ks) q || k == q)
-listed_more ks i k q l e =
-    ap (λ (ns : List ℕ). among ns q) (take_more ks i 0 l ∙ ap (λ (d : ℕ). take i ks ++ d ∷ []) (sym e)) ∙ any_last (λ n. n == q) (take i ks) k
+listed_more ks i k q l e = list_any_more (λ n. n == q) ks i 0 l ∙ ap (λ (d : ℕ). among (take i ks) q || d == q) (sym e)
 
 -- one more transition raises its events
 pub raised_more : (m : GroundMachine) (ks : List ℕ) (i k q : ℕ) → i < length ks → k ≡ get_or ks i 0
     → raised_at m (take (i + 1) ks) q ≡ (raised_at m (take i ks) q || passes (λ x. among x.raises q) m.transitions k)
 raised_more m ks i k q l e =
-    ap (λ (ns : List ℕ). raised_at m ns q) (take_more ks i 0 l ∙ ap (λ (d : ℕ). take i ks ++ d ∷ []) (sym e))
-    ∙ any_last (passes (λ x. among x.raises q) m.transitions) (take i ks) k
+    let raises = passes (λ x. among x.raises q) m.transitions in
+    list_any_more raises ks i 0 l ∙ ap (λ (d : ℕ). raised_at m (take i ks) q || raises d) (sym e)
 
 -- the events of a transition, all of them
 pub raised_by_one : (m : GroundMachine) (k q : ℕ) (x : GroundTransition) (ks : List ℕ) (b : Bool) → slice_get m.transitions k ≡ Some x → ks ≡ x.raises → (b || among ks q) ≡ (b || passes (λ y. among y.raises q) m.transitions k)
@@ -162,6 +157,9 @@ written_more f xs ns i x n long l e v h =
 
 -- Values of cases.
 
+abbrev pub HasLength : GroundSendCase → List ℤ → Type 0
+HasLength x ns = length ns ≡ length (values_of x.answer)
+
 set_there : {A : Type 0} (xs : List A) (k : ℕ) (x y : A) → slice_get xs k ≡ Some y → slice_get (set xs k x) k ≡ Some x
 set_there [] k x y h = absurd (let no : ⊥ = cc in no)
 set_there (z ∷ xs) zero x y h = refl
@@ -175,24 +173,20 @@ set_elsewhere (z ∷ xs) (suc k) zero x h = refl
 set_elsewhere (z ∷ xs) (suc k) (suc j) x h = set_elsewhere xs k j x (λ e. h (ap suc e))
 
 numbers_there : (m : GroundMachine) (k : ℕ) (x : GroundSendCase) (lists : List (List ℤ)) → HaveRoom m lists → slice_get m.send_cases k ≡ Some x → (ns : List ℤ) × (slice_get lists k ≡ Some ns) × (length ns ≡ length (values_of x.answer))
-numbers_there m k x lists room at = beside_first (λ (y : GroundSendCase) (ns : List ℤ). length ns ≡ length (values_of y.answer)) m.send_cases lists room k x at
+numbers_there m k x lists room at = beside_first HasLength m.send_cases lists room k x at
 
-room_stays : (cs : List GroundSendCase) (lists : List (List ℤ)) (k : ℕ) (ns : List ℤ) → AllZip (λ (x : GroundSendCase) (ns : List ℤ). length ns ≡ length (values_of x.answer)) cs lists
-    → ((x : GroundSendCase) → slice_get cs k ≡ Some x → length ns ≡ length (values_of x.answer)) → AllZip (λ (x : GroundSendCase) (ns : List ℤ). length ns ≡ length (values_of x.answer)) cs (set lists k ns)
+room_stays : (cs : List GroundSendCase) (lists : List (List ℤ)) (k : ℕ) (ns : List ℤ) → AllZip HasLength cs lists
+    → ((x : GroundSendCase) → slice_get cs k ≡ Some x → length ns ≡ length (values_of x.answer)) → AllZip HasLength cs (set lists k ns)
 room_stays [] [] k ns z h = tt
 room_stays [] (l ∷ lists) k ns z h = absurd z
 room_stays (c ∷ cs) [] k ns z h = absurd z
 room_stays (c ∷ cs) (l ∷ lists) zero ns z h = (h c refl, z.1)
 room_stays (c ∷ cs) (l ∷ lists) (suc k) ns z h = (z.0, room_stays cs lists k ns z.1 h)
 
-map_long : {A B : Type 0} (f : A → B) (xs : List A) → length (map f xs) ≡ length xs
-map_long f [] = refl
-map_long f (x ∷ xs) = ap suc (map_long f xs)
-
 -- a case with its numbers written: the room stays, and other cases keep theirs
 pub room_kept : (m : GroundMachine) (w : World) (k : ℕ) (lists new : List (List ℤ)) (ns : List ℤ) → HaveRoom m lists → ((x : GroundSendCase) → slice_get m.send_cases k ≡ Some x → ns ≡ case_numbers m w x) → new ≡ set lists k ns → HaveRoom m new
 room_kept m w k lists new ns room h e =
-    subst (HaveRoom m) (sym e) (room_stays m.send_cases lists k ns room (λ x at. ap length (h x at) ∙ map_long (value_number m w) (values_of x.answer)))
+    subst (HaveRoom m) (sym e) (room_stays m.send_cases lists k ns room (λ x at. ap length (h x at) ∙ length-map (values_of x.answer) (value_number m w)))
 
 pub case_kept : (m : GroundMachine) (w : World) (k j : ℕ) (lists new : List (List ℤ)) (ns : List ℤ) → HaveRoom m lists → ((x : GroundSendCase) → slice_get m.send_cases k ≡ Some x → ns ≡ case_numbers m w x) → new ≡ set lists k ns
     → AreOfCase m w lists j → AreOfCase m w new j
@@ -258,24 +252,17 @@ none_noted (suc n) (suc k) b h = none_noted n k b h
 
 pub forgotten : (g : Grounded) (w : World) (old new : List (Option Bool)) → length old ≡ length g.phrases → new ≡ replicate (length old) None → Knows g w new
 forgotten g w old new long e = record {
-  count = ap length e ∙ many (length old) None ∙ long;
+  count = ap length e ∙ length-replicate (length old) None ∙ long;
   right = λ k b h. absurd (none_noted (length old) k b (sym (ap (λ (ns : List (Option Bool)). slice_get ns k) e) ∙ h));
 }
-  where
-    many : (n : ℕ) (o : Option Bool) → length (replicate n o) ≡ n
-    many zero o = refl
-    many (suc n) o = ap suc (many n o)
 
 pub as_many : (m : GroundMachine) (lists : List (List ℤ)) → HaveRoom m lists → length lists ≡ length m.send_cases
-as_many m lists room = sym (as_long (λ (x : GroundSendCase) (ns : List ℤ). length ns ≡ length (values_of x.answer)) m.send_cases lists room)
+as_many m lists room = sym (as_long HasLength m.send_cases lists room)
 
 -- Room for one more case.
 
-abbrev HasLength : GroundSendCase → List ℤ → Type 0
-HasLength x ns = length ns ≡ length (values_of x.answer)
-
 pub room_more : (cs : List GroundSendCase) (i : ℕ) (x : GroundSendCase) (lists new : List (List ℤ)) (ns : List ℤ) → slice_get cs i ≡ Some x → length ns ≡ length (values_of x.answer)
-    → AllZip (λ (x : GroundSendCase) (ns : List ℤ). length ns ≡ length (values_of x.answer)) (take i cs) lists → new ≡ lists ++ ns ∷ [] → AllZip (λ (x : GroundSendCase) (ns : List ℤ). length ns ≡ length (values_of x.answer)) (take (i + 1) cs) new
+    → AllZip HasLength (take i cs) lists → new ≡ lists ++ ns ∷ [] → AllZip HasLength (take (i + 1) cs) new
 room_more cs i x lists new ns at long room e =
     let front = take_more cs i x (get_within cs i x at) ∙ ap (λ (d : GroundSendCase). take i cs ++ d ∷ []) (get_index cs i x x at) in
     subst (λ (ls : List (List ℤ)). AllZip HasLength (take (i + 1) cs) ls) (sym e)
@@ -283,17 +270,8 @@ room_more cs i x lists new ns at long room e =
 
 -- Lists that are kept.
 
-pub map_set : {A B : Type 0} (f : A → B) (xs : List A) (k : ℕ) (x : A) → map f (set xs k x) ≡ set (map f xs) k (f x)
-map_set f [] k x = refl
-map_set f (y ∷ xs) zero x = refl
-map_set f (y ∷ xs) (suc k) x = ap (λ zs. f y ∷ zs) (map_set f xs k x)
-
-get_mapped : {A B : Type 0} (f : A → B) (xs : List A) (k : ℕ) (v : A) (y : B) → k < length xs → v ≡ get_or xs k v → slice_get (map f xs) k ≡ Some y → y ≡ f v
-get_mapped f [] k v y l e h = absurd (omega (arith, l))
-get_mapped f (x ∷ xs) zero v y l e h = sym (same_Some (f x) y h) ∙ ap f (sym e)
-get_mapped f (x ∷ xs) (suc k) v y l e h = get_mapped f xs k v y (omega (arith, l)) e h
-
 pub list_at : {A : Type 0} (m : GroundMachine) (f : A → List ℤ) (xs : List A) (k : ℕ) (x : GroundSendCase) (v : A) → k < length xs → HaveRoom m (map f xs) → slice_get m.send_cases k ≡ Some x → v ≡ get_or xs k v → length (f v) ≡ length (values_of x.answer)
 list_at m f xs k x v l room at e =
     let there = numbers_there m k x (map f xs) room at in
-    ap length (sym (get_mapped f xs k v there.0 l e there.1)) ∙ there.2
+    let same = ap f e ∙ sym (get_or-map f xs k v (f v) l) ∙ get_or_from_slice_get (map f xs) k there.0 (f v) there.1 in
+    ap length same ∙ there.2

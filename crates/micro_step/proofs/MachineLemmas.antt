@@ -17,7 +17,7 @@ use Rattle.rsml_meaning.specs.Transitions.{TransitionInstance, transitions}
 use Rattle.rsml_meaning.specs.Transitions as meaning
 use Rattle.rsml_meaning.specs.Interfaces.{SendCaseInstance, send_cases}
 use Rattle.rsml_meaning.specs.Interfaces as meaning_of
-use Rattle.rsml_meaning.specs.Steps.{enabled_transitions, enabled_sends, raised_by}
+use Rattle.rsml_meaning.specs.Steps.{raised_by}
 use Rattle.rsml_meaning.specs.Turns.{after_one, after_all}
 use Rattle.state_arrays.specs.Places.{path_at}
 use Rattle.state_tree.specs.Numbers.{component_path, path_of}
@@ -34,9 +34,9 @@ use Rattle.micro_step.specs.declared.events.Events.{Events}
 use Rattle.micro_step.specs.Sets.{has}
 use Rattle.micro_step.specs.Rising.{among}
 use Rattle.micro_step.specs.Places.{passes, ArePlaces}
-use Rattle.micro_step.specs.Micros.{events_in}
+use Rattle.micro_step.specs.Micros.{events_in, enabled_numbers, sending_numbers}
 use Rattle.micro_step.specs.Numbers.{raised_at, after_move, after_number, taken_at, sent_at}
-use Rattle.micro_step.proofs.PlaceLemmas.{chosen_places, items_are}
+use Rattle.micro_step.proofs.PlaceLemmas.{same_places, items_are}
 use Rattle.micro_step.proofs.PresentLemmas.{present_has, raises_has}
 
 -- What a view says of activity, and its names.
@@ -66,32 +66,29 @@ case_sending : (m : GroundMachine) (w : World) → StandsFor m → (c : SendCase
     → is_sending m w x ≡ meaning_of.is_sending (view m.base.spec w) c
 case_sending m w stands c x is = guards_mean_the_text m.base w stands.grounded (within c.send.index) c.guard x.guard is.guard
 
-at_same : {A : Type 0} (xs : List A) (j : ℕ) → slice_get xs (0 + j) ≡ slice_get xs j
-at_same xs j = let same : 0 + j ≡ j = omega arith in ap (slice_get xs) same
-
 -- the numbers of the enabled transitions are those of the enabled transitions of the specification
-pub taken_are : (m : GroundMachine) (w : World) (set : Events) → StandsFor m
-    → ArePlaces (transitions m.base.spec) (enabled_transitions m.base.spec (view m.base.spec w) (events_in m.base.spec set)) (taken_at m w set)
-taken_are m w set stands =
+pub taken_numbers : (m : GroundMachine) (w : World) (set : Events) → StandsFor m
+    → taken_at m w set ≡ enabled_numbers m.base.spec (view m.base.spec w) (events_in m.base.spec set)
+taken_numbers m w set stands =
     let s = m.base.spec in
     let present = events_in s set in
     let pair : (t : TransitionInstance) (x : GroundTransition) → TransitionIs m.base.phrases s t x → (has set x.event && is_enabled m w x) ≡ (words.has present t.event && meaning.is_enabled (view s w) t) =
     λ t x is. ap (λ (b : Bool). b && is_enabled m w x) (sym (present_has s stands.grounded.checked (has set) t.event x.event is.event))
     ∙ ap (λ (b : Bool). words.has present t.event && b) (transition_enabled m w stands t x is) in
-    chosen_places (TransitionIs m.base.phrases s) (λ x. has set x.event && is_enabled m w x) (λ t. words.has present t.event && meaning.is_enabled (view s w) t)
-    (transitions s) m.transitions stands.transitions_are pair (transitions s) 0 (at_same (transitions s))
+    same_places (TransitionIs m.base.phrases s) (λ x. has set x.event && is_enabled m w x) (λ t. words.has present t.event && meaning.is_enabled (view s w) t)
+    (transitions s) m.transitions stands.transitions_are pair 0
 
 -- so are those of the send cases
-pub sent_are : (m : GroundMachine) (w : World) (set : Events) → StandsFor m
-    → ArePlaces (send_cases m.base.spec) (enabled_sends m.base.spec (view m.base.spec w) (events_in m.base.spec set)) (sent_at m w set)
-sent_are m w set stands =
+pub sent_numbers : (m : GroundMachine) (w : World) (set : Events) → StandsFor m
+    → sent_at m w set ≡ sending_numbers m.base.spec (view m.base.spec w) (events_in m.base.spec set)
+sent_numbers m w set stands =
     let s = m.base.spec in
     let present = events_in s set in
     let pair : (c : SendCaseInstance) (x : GroundSendCase) → SendCaseIs m.base.phrases s c x → (has set x.event && is_sending m w x) ≡ (words.has present c.event && meaning_of.is_sending (view s w) c) =
     λ c x is. ap (λ (b : Bool). b && is_sending m w x) (sym (present_has s stands.grounded.checked (has set) c.event x.event is.event))
     ∙ ap (λ (b : Bool). words.has present c.event && b) (case_sending m w stands c x is) in
-    chosen_places (SendCaseIs m.base.phrases s) (λ x. has set x.event && is_sending m w x) (λ c. words.has present c.event && meaning_of.is_sending (view s w) c)
-    (send_cases s) m.send_cases stands.cases_are pair (send_cases s) 0 (at_same (send_cases s))
+    same_places (SendCaseIs m.base.phrases s) (λ x. has set x.event && is_sending m w x) (λ c. words.has present c.event && meaning_of.is_sending (view s w) c)
+    (send_cases s) m.send_cases stands.cases_are pair 0
 
 -- Raised events.
 

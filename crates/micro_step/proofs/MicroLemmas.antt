@@ -1,10 +1,10 @@
 -- A micro-step over numbers is one of the specification.
-use Rattle.std.proofs.Common.{◌≡◌, ℕ, suc, Bool, true, List, [], ◌∷◌, fold, ℤ, length, refl, sym, ◌∙◌, subst, arith}
+use Rattle.std.proofs.Common.{◌≡◌, ℕ, suc, Bool, ◌&&◌, true, List, [], ◌∷◌, fold, ℤ, length, refl, sym, ◌∙◌, subst, arith}
 use Rattle.std.specs.Cmp.{first_so, second_so}
 use Rattle.std.specs.Cmp.Lexicographic.{pointwise}
 use Rattle.rsml_syntax.specs.declared.syntax.Spec.{Spec}
 use Rattle.rsml_syntax.specs.declared.world.World.{World}
-use Rattle.rsml_meaning.specs.Words.{Each, Instance}
+use Rattle.rsml_meaning.specs.Words.{Each, Instance, has as has_event}
 use Rattle.rsml_meaning.specs.Chains.{Ends}
 use Rattle.rsml_meaning.specs.Certified.{Certified}
 use Rattle.rsml_meaning.proofs.rules.Scoped.{rules_give_scopes}
@@ -14,8 +14,8 @@ use Rattle.rsml_meaning.specs.Instances.{components}
 use Rattle.rsml_meaning.specs.Cells.{cells, is_of}
 use Rattle.rsml_meaning.specs.Worlds.{IsWorld, is_choice}
 use Rattle.rsml_meaning.specs.Truth.{view}
-use Rattle.rsml_meaning.specs.Transitions.{transitions}
-use Rattle.rsml_meaning.specs.Interfaces.{SendCaseInstance, send_cases}
+use Rattle.rsml_meaning.specs.Transitions.{transitions, is_enabled}
+use Rattle.rsml_meaning.specs.Interfaces.{SendCaseInstance, send_cases, is_sending}
 use Rattle.rsml_meaning.specs.Steps.{AreOutcomes, enabled_transitions, enabled_sends}
 use Rattle.elaborate.specs.Machine.{GroundMachine, StandsFor}
 use Rattle.micro_step.specs.declared.events.Events.{Events}
@@ -23,7 +23,8 @@ use Rattle.micro_step.specs.Sets.{has}
 use Rattle.micro_step.specs.Places.{ArePlaces}
 use Rattle.micro_step.specs.Micros.{events_in, IsMicro}
 use Rattle.micro_step.specs.Numbers.{raised_at, after_number, taken_at, sent_at, of_cases, AreOfCase}
-use Rattle.micro_step.proofs.MachineLemmas.{taken_are, sent_are, raised_are, moves_are}
+use Rattle.micro_step.proofs.MachineLemmas.{taken_numbers, sent_numbers, raised_are, moves_are}
+use Rattle.micro_step.proofs.PlaceLemmas.{passing_places}
 use Rattle.micro_step.proofs.TurnLemmas.{turns_are_outcomes}
 use Rattle.micro_step.proofs.ValueLemmas.{sent_with}
 
@@ -47,9 +48,11 @@ pub is_micro : (m : GroundMachine) (w w' : World) (before after : Events) (taken
 is_micro m w w' before after taken sent values stands world t c each numbers choices raised =
     let s = m.base.spec in
     let ts = enabled_transitions s (view s w) (events_in s before) in
-    let there = subst (ArePlaces (transitions s) ts) (sym t) (taken_are m w before stands) in
+    let all_taken = t ∙ taken_numbers m w before stands in
+    let there = subst (ArePlaces (transitions s) ts) (sym all_taken) (passing_places (λ x. has_event (events_in s before) x.event && is_enabled (view s w) x) (transitions s)) in
     let cs = enabled_sends s (view s w) (events_in s before) in
-    let sending = subst (ArePlaces (send_cases s) cs) (sym c) (sent_are m w before stands) in
+    let all_sent = c ∙ sent_numbers m w before stands in
+    let sending = subst (ArePlaces (send_cases s) cs) (sym all_sent) (passing_places (λ x. has_event (events_in s before) x.event && is_sending (view s w) x) (send_cases s)) in
     let with_values = sent_with m w values stands cs sent sending each in
     record {
       transitions_taken = ts;
@@ -57,6 +60,8 @@ is_micro m w w' before after taken sent values stands world t c each numbers cho
       taken_are = there;
       sent_are = subst (λ (xs : List SendCaseInstance). ArePlaces (send_cases s) xs sent) (sym with_values.cases_are) sending;
       values_are = with_values.numbers_are;
+      all_taken = all_taken;
+      all_sent = all_sent;
       micro = record {
         all_taken = refl;
         all_sent = with_values.cases_are;

@@ -191,27 +191,34 @@ events_all h ev en xs q from past = same_pass (before_event h ev en from) (on_se
 
 -- Items and places.
 
--- the places of the items that pass are those of the items of another list that pass there
-pub chosen_places : {A B : Type 0} (R : A → B → Type 0) (f : B → Bool) (g : A → Bool) (xs : List A) (ys : List B) → AllZip R xs ys → ((a : A) (b : B) → R a b → f b ≡ g a)
-    → (all : List A) (n : ℕ) → ((j : ℕ) → slice_get all (n + j) ≡ slice_get xs j) → ArePlaces all (filter g xs) (places_where f n ys)
-chosen_places R f g [] [] z h all n at = tt
-chosen_places R f g [] (b ∷ ys) z h all n at = absurd z
-chosen_places R f g (a ∷ xs) [] z h all n at = absurd z
-chosen_places R f g (a ∷ xs) (b ∷ ys) z h all n at =
-    by (f b) (g a) (h a b z.0) (chosen_places R f g xs ys z.1 h all (suc n) (λ j. ap (slice_get all) (shift j) ∙ at (suc j)))
+places_from : {A : Type 0} (t : A → Bool) (xs all : List A) (n : ℕ) → ((j : ℕ) → slice_get all (n + j) ≡ slice_get xs j) → ArePlaces all (filter t xs) (places_where t n xs)
+places_from t [] all n at = tt
+places_from t (x ∷ xs) all n at = by (t x) (places_from t xs all (suc n) (λ j. ap (slice_get all) (shift j) ∙ at (suc j)))
   where
     shift : (j : ℕ) → suc n + j ≡ n + suc j
     shift j = omega arith
 
-    here : slice_get all n ≡ Some a
+    here : slice_get all n ≡ Some x
     here = let same : n ≡ n + 0 = omega arith in ap (slice_get all) same ∙ at 0
 
-    by : (x y : Bool) → x ≡ y → ArePlaces all (filter g xs) (places_where f (suc n) ys)
-        → ArePlaces all (if y then a ∷ filter g xs else filter g xs) (if x then n ∷ places_where f (suc n) ys else places_where f (suc n) ys)
-    by true true e rest = (here, rest)
-    by false false e rest = rest
-    by true false e rest = absurd (true≢false e)
-    by false true e rest = absurd (true≢false (sym e))
+    by : (b : Bool) → ArePlaces all (filter t xs) (places_where t (suc n) xs)
+        → ArePlaces all (if b then x ∷ filter t xs else filter t xs) (if b then n ∷ places_where t (suc n) xs else places_where t (suc n) xs)
+    by true rest = (here, rest)
+    by false rest = rest
+
+-- the items that pass are at the places of those that pass
+pub passing_places : {A : Type 0} (t : A → Bool) (xs : List A) → ArePlaces xs (filter t xs) (places_where t 0 xs)
+passing_places t xs = places_from t xs xs 0 (λ j. let same : 0 + j ≡ j = omega arith in ap (slice_get xs) same)
+
+-- the places of the items that pass are the places of the items of another list that pass there
+pub same_places : {A B : Type 0} (R : A → B → Type 0) (f : B → Bool) (g : A → Bool) (xs : List A) (ys : List B) → AllZip R xs ys → ((a : A) (b : B) → R a b → f b ≡ g a)
+    → (n : ℕ) → places_where f n ys ≡ places_where g n xs
+same_places R f g [] [] z h n = refl
+same_places R f g [] (b ∷ ys) z h n = absurd z
+same_places R f g (a ∷ xs) [] z h n = absurd z
+same_places R f g (a ∷ xs) (b ∷ ys) z h n =
+    let rest = same_places R f g xs ys z.1 h (suc n) in
+    λ i. if h a b z.0 i then n ∷ rest i else rest i
 
 -- the items at places that pass are those that pass
 pub items_are : {A : Type 0} (p : ℕ → Bool) (f : A → Bool) (n : ℕ) (xs : List A) → ((j : ℕ) (x : A) → slice_get xs j ≡ Some x → p (n + j) ≡ f x) → items_where p n xs ≡ filter f xs

@@ -4,6 +4,7 @@ use Rattle.std.specs.Prelude.{if◌then◌else◌}
 use Rattle.std.specs.List.{AllZip}
 use Rattle.std.specs.Option.{option_map_or}
 use Rattle.std.proofs.lemmas.List.{length-map, length-drop}
+use Rattle.std.proofs.lemmas.Option.{slice_get_past}
 use Rattle.rsml_syntax.specs.declared.world.World.{World}
 use Rattle.rsml_syntax.specs.declared.syntax.Row.{Row}
 use Rattle.rsml_syntax.specs.declared.syntax.Case.{Case}
@@ -83,13 +84,8 @@ rows_of_guard g w e r (written.Table rows) guards.Always z = absurd z
 
 -- Lists side by side.
 
-none_behind : {A : Type 0} (xs : List A) (k : ℕ) → length xs ≤ k → slice_get xs k ≡ None
-none_behind [] k l = refl
-none_behind (x ∷ xs) zero l = absurd (omega (arith, l))
-none_behind (x ∷ xs) (suc k) l = none_behind xs k (omega (arith, l))
-
 none_beside : {A B : Type 0} (R : A → B → Type 0) (xs : List A) (ys : List B) → AllZip R xs ys → (k : ℕ) → length ys ≤ k → slice_get xs k ≡ None
-none_beside R xs ys z k l = none_behind xs k (omega (arith, l, as_long R xs ys z))
+none_beside R xs ys z k l = slice_get_past xs k (omega (arith, l, as_long R xs ys z))
 
 -- Members.
 

@@ -10,8 +10,10 @@ use Rattle.elaborate.specs.Machine.{GroundMachine}
 use Rattle.elaborate.specs.OnEvents.{transitions_on, cases_on}
 use Rattle.elaborate.specs.Enabled.{is_enabled, is_sending}
 use Rattle.micro_step.specs.declared.candidates.Candidate.{Candidate}
+use Rattle.micro_step.specs.declared.prepared.Prepared.{Prepared}
 use Rattle.macros.specs.declared.asked.Asked.{Asked}
 use Rattle.macros.specs.Asked.{AskedBelow, asked_truth}
+use Rattle.macros.specs.StatePhrases.{IsStatePhrase}
 use Rattle.rsml_ground.specs.Choices.{AreOfComponents, are_chosen}
 use Rattle.micro_step.specs.Places.{passes}
 
@@ -50,15 +52,13 @@ pub record AreFor {A : Type 0} (m : GroundMachine) (test : World → A → Bool)
   pub in_order : map (λ c. c.number) cs ≡ numbers
   pub each : All (TellsOf m test xs) cs
 
--- There is a list for each event, with a candidate for each of its numbers.
-pub record AreOnEvents {A : Type 0} (m : GroundMachine) (test : World → A → Bool) (xs : List A) (numbers : ℕ → List ℕ) (lists : List (List Candidate)) : Type 0 where
-  pub many : length lists ≡ length (events m.base.spec)
-  pub each : (event : ℕ) (cs : List Candidate) → slice_get lists event ≡ Some cs → AreFor m test xs (numbers event) cs
+-- What is prepared for an event is of the transitions and of the cases of sends on it, and its phrases are about states alone.
+pub record IsPrepared (m : GroundMachine) (event : ℕ) (p : Prepared) : Type 0 where
+  pub transitions : AreFor m (is_enabled m) m.transitions (transitions_on m event) p.transitions.items
+  pub cases : AreFor m (is_sending m) m.send_cases (cases_on m event) p.cases.items
+  pub states : All (IsStatePhrase m.base) p.states.items
 
--- for each event the candidates for the transitions on it
-abbrev pub AreOfTransitions : GroundMachine → List (List Candidate) → Type 0
-AreOfTransitions m lists = AreOnEvents m (is_enabled m) m.transitions (transitions_on m) lists
-
--- for each event the candidates for the cases of sends on it
-abbrev pub AreOfCases : GroundMachine → List (List Candidate) → Type 0
-AreOfCases m lists = AreOnEvents m (is_sending m) m.send_cases (cases_on m) lists
+-- That is so for each event.
+pub record ArePrepared (m : GroundMachine) (ps : List Prepared) : Type 0 where
+  pub many : length ps ≡ length (events m.base.spec)
+  pub each : (event : ℕ) (p : Prepared) → slice_get ps event ≡ Some p → IsPrepared m event p

@@ -1,5 +1,5 @@
 -- What a machine does, over its numbers.
-use Rattle.std.specs.Prelude.{◌≡◌, ℕ, ◌<◌, Bool, ◌&&◌, List, [], map, length, Option, Some, None, slice_get, slice_index_or, fold, ℤ, All}
+use Rattle.std.specs.Prelude.{◌≡◌, ℕ, ◌<◌, Bool, ◌&&◌, List, [], map, length, Option, Some, None, slice_get, slice_index_or, fold, ℤ}
 use Rattle.std.specs.List.{AllZip, list_any}
 use Rattle.std.specs.Option.{option_map_or}
 use Rattle.rsml_syntax.specs.declared.world.World.{World}
@@ -19,13 +19,13 @@ use Rattle.ground_members.specs.declared.send_cases.GroundAnswer.{GroundAnswer}
 use Rattle.ground_members.specs.declared.send_cases.GroundAnswer.TheVariants as answer
 use Rattle.elaborate.specs.Machine.{GroundMachine}
 use Rattle.elaborate.specs.Enabled.{is_enabled, is_sending}
-use Rattle.micro_step.specs.declared.candidates.Candidate.{Candidate}
+use Rattle.micro_step.specs.declared.prepared.Prepared.{Prepared}
+use Rattle.micro_step.specs.declared.reading.Reading.{Reading}
 use Rattle.micro_step.specs.declared.events.Events.{Events}
-use Rattle.macros.specs.declared.state_phrases.StatePhrase.{StatePhrase}
-use Rattle.micro_step.specs.Candidates.{AreOfTransitions, AreOfCases}
+use Rattle.micro_step.specs.Candidates.{ArePrepared, KnowsGuards}
 use Rattle.micro_step.specs.Sets.{has}
-use Rattle.macros.specs.StatePhrases.{IsStatePhrase}
-use Rattle.micro_step.specs.Rising.{Numbers, among}
+use Rattle.macros.specs.Known.{Knows}
+use Rattle.micro_step.specs.Rising.{AreRising, Numbers, among}
 use Rattle.micro_step.specs.Places.{passes, places_where}
 
 -- whether one of the transitions of these numbers raises the event of a number
@@ -84,17 +84,15 @@ abbrev pub picked : List ℕ → List ℕ → List ℕ
 picked ks places = map (λ p. slice_index_or ks p 0) places
 
 -- What a machine keeps for its micro-steps: what is known of the phrases and of the guards of transitions, the numbers of the
--- taken transitions and of the send cases, and for each case of a send the numbers of its values; and for each event the
--- candidates for the transitions and for the cases of sends on it, and phrases about states alone.
+-- taken transitions and of the send cases, and for each case of a send the numbers of its values; and what is prepared for
+-- each event.
 pub record Kept : Type 0 where
   pub memo : List (Option Bool)
   pub guards : List (Option Bool)
   pub taken : Numbers
   pub sent : Numbers
   pub values : List (List ℤ)
-  pub transitions : List (List Candidate)
-  pub cases : List (List Candidate)
-  pub states : List (List StatePhrase)
+  pub prepared : List Prepared
 
 -- It was made for the machine.
 pub record IsFor (m : GroundMachine) (k : Kept) : Type 0 where
@@ -103,9 +101,16 @@ pub record IsFor (m : GroundMachine) (k : Kept) : Type 0 where
   pub taken : k.taken.below ≡ length m.transitions
   pub sent : k.sent.below ≡ length m.send_cases
   pub values : HaveRoom m k.values
-  pub transitions : AreOfTransitions m k.transitions
-  pub cases : AreOfCases m k.cases
-  pub states : All (All (IsStatePhrase m.base)) k.states
+  pub prepared : ArePrepared m k.prepared
+
+-- There is a place for each phrase and guard and for each transition and case of a send, and what is known is right in the world.
+pub record IsReading (m : GroundMachine) (w : World) (r : Reading) : Type 0 where
+  pub knows : Knows m.base w r.memo
+  pub guards : KnowsGuards m w r.guards
+  pub taken : r.taken.below ≡ length m.transitions
+  pub sent : r.sent.below ≡ length m.send_cases
+  pub rising_taken : AreRising r.taken.items
+  pub rising_sent : AreRising r.sent.items
 
 -- the numbers of the transitions that are enabled in a world on the events of a set, rising
 abbrev pub taken_at : GroundMachine → World → Events → List ℕ

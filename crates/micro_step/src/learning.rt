@@ -3,7 +3,6 @@ ghost use Rattle.rsml_meaning.specs.Worlds.{IsWorld};
 ghost use Rattle.macros.specs.Known.{Knows};
 ghost use Rattle.macros.specs.StatePhrases.{IsStatePhrase, some_chosen};
 
-use crate::events::Events;
 use elaborate::Machine;
 use macros::{Memo, StatePhrase};
 use rsml_ground::{Choice, are_chosen};
@@ -35,7 +34,7 @@ fn learn(machine: &Machine<'_>, world: &World, memo: &mut Memo, one: &StatePhras
 }
 
 /// Makes the truths of phrases about states alone known.
-fn learn_all(machine: &Machine<'_>, world: &World, memo: &mut Memo, phrases: &[StatePhrase])
+pub fn learn_all(machine: &Machine<'_>, world: &World, memo: &mut Memo, phrases: &[StatePhrase])
     requires world { IsWorld machine.now.base.spec world.now }
     requires knows { Knows machine.now.base world.now memo.old }
     requires phrases { All (IsStatePhrase machine.now.base) phrases.now }
@@ -43,28 +42,5 @@ fn learn_all(machine: &Machine<'_>, world: &World, memo: &mut Memo, phrases: &[S
 {
     for one in phrases {
         learn(machine, world, memo, one);
-    }
-}
-
-/// Makes the truths of those phrases known that are about states alone and may be asked on the events of a set.
-pub fn learn_states(
-    machine: &Machine<'_>,
-    world: &World,
-    memo: &mut Memo,
-    lists: &[Vec<StatePhrase>],
-    present: &Events,
-)
-    requires world { IsWorld machine.now.base.spec world.now }
-    requires knows { Knows machine.now.base world.now memo.old }
-    requires lists { All (All (IsStatePhrase machine.now.base)) (map (λ list. list.items) lists.now) }
-    ensures { Knows machine.now.base world.now memo.new }
-{
-    let count = machine.events() as usize;
-    let mut from = 0;
-    while let Some(event) = present.next_below(from, count) {
-        if let Some(phrases) = lists.get(event) {
-            learn_all(machine, world, memo, phrases.as_slice());
-        }
-        from = event + 1;
     }
 }

@@ -9,13 +9,12 @@ mod moves;
 mod needed;
 mod prepared;
 mod raising;
+mod reading;
 mod rising;
 mod rows;
 mod scratch;
-mod sending;
 mod steps;
 mod sums;
-mod taking;
 mod values;
 
 pub use events::Events;

@@ -1,4 +1,4 @@
-ghost use Rattle.std.specs.Prelude.{◌<◌, All, IfOk, OnOk, length, map};
+ghost use Rattle.std.specs.Prelude.{◌<◌, All, IfOk, OnOk, length};
 ghost use Rattle.rsml_meaning.specs.Instances.{events};
 ghost use Rattle.macros.specs.StatePhrases.{IsStatePhrase};
 
@@ -161,29 +161,21 @@ fn marked(
     Ok(found)
 }
 
-/// The phrases about states alone that may be asked on an event.
-fn needed_on(alloc: Global, machine: &Machine<'_>, event: u32) -> Result<Vec<StatePhrase>, NoMemory>
+/// The phrases about states alone that may be asked on an event. None where there is too much to look at for all events.
+pub fn needed_on(
+    alloc: Global,
+    machine: &Machine<'_>,
+    event: u32,
+) -> Result<Vec<StatePhrase>, NoMemory>
     requires { event < length (events machine.now.base.spec) }
     ensures { IfOk result (λ found. All (IsStatePhrase machine.now.base) found.items) }
 {
     let count = machine.macros().phrases();
+    if u64::from(machine.events()) * u64::from(count) > MOST {
+        return Ok(Vec::new(alloc));
+    }
     let mut marks = Vec::from_elem(alloc, false, count as usize)?;
     mark_transitions(&mut marks, machine, event);
     mark_cases(&mut marks, machine, event);
     marked(alloc, machine, &mut marks)
-}
-
-/// For each event the phrases about states alone that may be asked on it. No lists where there is too much to look at.
-pub fn needed(alloc: Global, machine: &Machine<'_>) -> Result<Vec<Vec<StatePhrase>>, NoMemory>
-    ensures { IfOk result (λ lists. All (All (IsStatePhrase machine.now.base)) (map (λ list. list.items) lists.items)) }
-{
-    let mut lists = Vec::new(alloc);
-    let events = machine.events();
-    if u64::from(events) * u64::from(machine.macros().phrases()) > MOST {
-        return Ok(lists);
-    }
-    for event in 0..events {
-        lists.push(needed_on(alloc, machine, event)?)?;
-    }
-    Ok(lists)
 }

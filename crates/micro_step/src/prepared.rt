@@ -1,19 +1,38 @@
-ghost use Rattle.std.specs.Prelude.{◌≡◌, ◌<◌, All, IfOk, IfSome, length, map};
+ghost use Rattle.std.specs.Prelude.{◌≡◌, ◌<◌, All, IfOk, IfSome, length};
 ghost use Rattle.rsml_meaning.specs.Instances.{events};
 ghost use Rattle.elaborate.specs.Machine.{GroundMachine};
 ghost use Rattle.elaborate.specs.Enabled.{is_enabled, is_sending};
 ghost use Rattle.elaborate.specs.OnEvents as numbers;
-ghost use Rattle.micro_step.specs.Candidates.{AreFor, AreOfCases, AreOfTransitions, Fits, HasGuardOf, TellsOf};
+ghost use Rattle.micro_step.specs.Candidates.{AreFor, ArePrepared, Fits, HasGuardOf, IsPrepared, TellsOf};
 
 use crate::candidates::Candidate;
+use crate::needed::needed_on;
 use elaborate::Machine;
-use macros::Asked;
+use macros::{Asked, StatePhrase};
 use rsml_ground::choices_around;
 use rsml_syntax::NoMemory;
 use std::alloc::Global;
 
 /// How many candidates before a transition are looked through for its guard.
 const NEAR: usize = 64;
+
+/// What is prepared for an event: the candidates for the transitions on it and for the cases of sends on it, and the phrases
+/// about states alone that may be asked.
+pub struct Prepared {
+    pub transitions: Vec<Candidate>,
+    pub cases: Vec<Candidate>,
+    pub states: Vec<StatePhrase>,
+}
+
+impl Drop for Prepared {
+    fn drop(self) {
+        let Self {
+            transitions: _,
+            cases: _,
+            states: _,
+        } = self;
+    }
+}
 
 /// The number at which the truth of a transition's guard is kept: the one of a candidate shortly before it that is asked by the
 /// same columns, or else its own. None where the guard is not asked by columns: then its truth is not kept.
@@ -108,26 +127,29 @@ fn cases_on(alloc: Global, machine: &Machine<'_>, event: u32) -> Result<Vec<Cand
     Ok(candidates)
 }
 
-/// For each event the candidates for the transitions on it.
-pub fn of_transitions(alloc: Global, machine: &Machine<'_>) -> Result<Vec<Vec<Candidate>>, NoMemory>
-    ensures { IfOk result (λ lists. AreOfTransitions machine.now (map (λ v. v.items) lists.items)) }
+/// What is prepared for an event.
+fn on_event(alloc: Global, machine: &Machine<'_>, event: u32) -> Result<Prepared, NoMemory>
+    requires { event < length (events machine.now.base.spec) }
+    ensures { IfOk result (IsPrepared machine.now event) }
 {
-    let count = machine.events();
-    let mut lists = Vec::with_capacity(alloc, count as usize)?;
-    for event in 0..count {
-        lists.push(transitions_on(alloc, machine, event)?)?;
-    }
-    Ok(lists)
+    let transitions = transitions_on(alloc, machine, event)?;
+    let cases = cases_on(alloc, machine, event)?;
+    let states = needed_on(alloc, machine, event)?;
+    Ok(Prepared {
+        transitions,
+        cases,
+        states,
+    })
 }
 
-/// For each event the candidates for the cases of sends on it.
-pub fn of_cases(alloc: Global, machine: &Machine<'_>) -> Result<Vec<Vec<Candidate>>, NoMemory>
-    ensures { IfOk result (λ lists. AreOfCases machine.now (map (λ v. v.items) lists.items)) }
+/// What is prepared for each event.
+pub fn on_events(alloc: Global, machine: &Machine<'_>) -> Result<Vec<Prepared>, NoMemory>
+    ensures { IfOk result (λ prepared. ArePrepared machine.now prepared.items) }
 {
     let count = machine.events();
-    let mut lists = Vec::with_capacity(alloc, count as usize)?;
+    let mut prepared = Vec::with_capacity(alloc, count as usize)?;
     for event in 0..count {
-        lists.push(cases_on(alloc, machine, event)?)?;
+        prepared.push(on_event(alloc, machine, event)?)?;
     }
-    Ok(lists)
+    Ok(prepared)
 }

@@ -7,20 +7,16 @@ ghost use Rattle.micro_step.specs.Micros.{AreEvents};
 ghost use Rattle.micro_step.specs.Numbers.{AreOfCase, HaveRoom, IsFor, sent_at, taken_at, values_of};
 ghost use Rattle.micro_step.specs.Rows.{bits_of, member_rows};
 
-use crate::candidates::Candidate;
 use crate::events::Events;
-use crate::learning::learn_states;
-use crate::needed::needed;
-use crate::prepared::{of_cases, of_transitions};
+use crate::prepared::{Prepared, on_events};
+use crate::reading::Reading;
 use crate::rising::Rising;
 use crate::rows::member_rows;
-use crate::sending::send;
-use crate::taking::take;
 use crate::values::write_all;
 use elaborate::Machine;
 use ground_groups::Member;
 use ground_members::GroundAnswer;
-use macros::{Memo, StatePhrase};
+use macros::Memo;
 use rsml_syntax::{NoMemory, World};
 use std::alloc::Global;
 use std::marker::Model;
@@ -29,27 +25,17 @@ use std::marker::Model;
 /// transitions, the send cases that are enabled, and their values; and for each event what may be enabled on it. Only `new`
 /// takes memory.
 pub struct Scratch {
-    memo: Memo,
-    guards: Memo,
-    taken: Rising,
-    sent: Rising,
+    reading: Reading,
     values: Vec<Vec<i64>>,
-    transitions: Vec<Vec<Candidate>>,
-    cases: Vec<Vec<Candidate>>,
-    states: Vec<Vec<StatePhrase>>,
+    prepared: Vec<Prepared>,
 }
 
 impl Drop for Scratch {
     fn drop(self) {
         let Self {
-            memo: _,
-            guards: _,
-            taken: _,
-            sent: _,
+            reading: _,
             values: _,
-            transitions: _,
-            cases: _,
-            states: _,
+            prepared: _,
         } = self;
     }
 }
@@ -61,17 +47,15 @@ impl Model for Scratch {
     ghost Value = { Kept };
 
     ghost view = { λ s. record {
-      memo = s.memo;
-      guards = s.guards;
-      taken = s.taken;
-      sent = s.sent;
+      memo = s.reading.memo;
+      guards = s.reading.guards;
+      taken = s.reading.taken;
+      sent = s.reading.sent;
       values = map (λ v. v.items) s.values.items;
-      transitions = map (λ v. v.items) s.transitions.items;
-      cases = map (λ v. v.items) s.cases.items;
-      states = map (λ v. v.items) s.states.items;
+      prepared = s.prepared.items;
     } };
 
-    ghost invariant = { λ s. length s.values.items ≡ s.sent.below };
+    ghost invariant = { λ s. length s.values.items ≡ s.reading.sent.below };
 }
 
 /// How many values an answer has.
@@ -108,19 +92,18 @@ impl Scratch {
         let guards = Memo::new(alloc, machine.transitions())?;
         let taken = Rising::new(alloc, machine.transitions())?;
         let sent = Rising::new(alloc, machine.send_cases())?;
-        let values = room(alloc, machine)?;
-        let transitions = of_transitions(alloc, machine)?;
-        let cases = of_cases(alloc, machine)?;
-        let states = needed(alloc, machine)?;
-        Ok(Scratch {
+        let reading = Reading {
             memo,
             guards,
             taken,
             sent,
+        };
+        let values = room(alloc, machine)?;
+        let prepared = on_events(alloc, machine)?;
+        Ok(Scratch {
+            reading,
             values,
-            transitions,
-            cases,
-            states,
+            prepared,
         })
     }
 
@@ -128,14 +111,14 @@ impl Scratch {
     pub fn taken(&self) -> &[u32]
         ensures { result.now ≡ self.now.taken.items }
     {
-        self.taken.as_slice()
+        self.reading.taken.as_slice()
     }
 
     /// The numbers of the cases of sends that were enabled in the last micro-step, rising.
     pub fn sent(&self) -> &[u32]
         ensures { result.now ≡ self.now.sent.items }
     {
-        self.sent.as_slice()
+        self.reading.sent.as_slice()
     }
 
     /// The values of the send case at a place of `sent`; none where that is quiet.
@@ -143,7 +126,7 @@ impl Scratch {
         requires { place < length self.now.sent.items }
         ensures { result.now ≡ slice_index_or self.now.values (slice_index_or self.now.sent.items place 0) [] }
     {
-        let case = self.sent.as_slice()[place];
+        let case = self.reading.sent.as_slice()[place];
         self.values[case as usize].as_slice()
     }
 
@@ -157,8 +140,8 @@ impl Scratch {
         ensures knows { Knows machine.now.base world.now self.new.memo }
         ensures rest { self.new ≡ record self.old { memo = self.new.memo } }
     {
-        let _ = &self.sent;
-        member_rows(machine, world, &mut self.memo, member)
+        let _ = &self.reading;
+        member_rows(machine, world, &mut self.reading.memo, member)
     }
 
     /// Reads what is enabled in a world on the events of a set, and what is sent.
@@ -172,40 +155,17 @@ impl Scratch {
         ensures knows { Knows machine.now.base world.now self.new.memo }
         ensures made { IsFor machine.now self.new }
     {
-        self.memo.forget();
-        self.guards.forget();
-        learn_states(
-            machine,
-            world,
-            &mut self.memo,
-            self.states.as_slice(),
-            present,
-        );
-        self.taken.clear();
-        take(
-            machine,
-            world,
-            &mut self.memo,
-            &mut self.guards,
-            self.transitions.as_slice(),
-            present,
-            &mut self.taken,
-        );
-        self.sent.clear();
-        send(
-            machine,
-            world,
-            &mut self.memo,
-            &mut self.guards,
-            self.cases.as_slice(),
-            present,
-            &mut self.sent,
-        );
+        self.reading.memo.forget();
+        self.reading.guards.forget();
+        self.reading.taken.clear();
+        self.reading.sent.clear();
+        self.reading
+            .read_all(machine, world, self.prepared.as_slice(), present);
         write_all(
             machine,
             world,
-            &mut self.memo,
-            self.sent.as_slice(),
+            &mut self.reading.memo,
+            self.reading.sent.as_slice(),
             &mut self.values,
         );
     }

@@ -1,8 +1,6 @@
-ghost use Rattle.std.specs.Prelude.{◌≡◌, ◌<◌, Some, length, map, slice_get, slice_set};
-ghost use Rattle.std.specs.List.{AllZip};
+ghost use Rattle.std.specs.Prelude.{◌≡◌, ◌<◌, Some, length, map, slice_get};
 ghost use Rattle.rsml_meaning.specs.Words.{Each};
 ghost use Rattle.rsml_meaning.specs.Worlds.{IsWorld};
-ghost use Rattle.rsml_ground.specs.Rests.{SumFits};
 ghost use Rattle.macros.specs.Known.{Knows};
 ghost use Rattle.ground_members.specs.declared.send_cases.GroundSendCase.{GroundSendCase as SendCase};
 ghost use Rattle.micro_step.specs.Numbers as spec;

@@ -59,4 +59,4 @@ module _ (s : Spec) (k : ℕ) (ns : List ℤ) (there : k < length (receives s)) 
 -- What is kept, of which more is known of the phrases.
 
 pub still_for : (m : GroundMachine) (k k' : Kept) → k' ≡ record k { memo = k'.memo } → length k'.memo ≡ length m.base.phrases → IsFor m k → IsFor m k'
-still_for m k k' rest count is = subst (IsFor m) (sym rest) (record { phrases = count; guards = is.guards; taken = is.taken; sent = is.sent; values = is.values; transitions = is.transitions; cases = is.cases; states = is.states })
+still_for m k k' rest count is = subst (IsFor m) (sym rest) (record { phrases = count; guards = is.guards; taken = is.taken; sent = is.sent; values = is.values; prepared = is.prepared })

@@ -27,6 +27,8 @@ round_done s w w' present raised k m =
       is = record { world = refl; events = refl; micro = m.micro };
       began = refl;
       last_is = record { present_are = refl; taken_are = m.taken_are; sent_are = m.sent_are; values_are = m.values_are };
+      all_taken = m.all_taken;
+      all_sent = m.all_sent;
     }
 
 -- the last round, by what the machine kept of it

@@ -6,6 +6,7 @@ use Rattle.rsml_syntax.specs.declared.world.World.{World}
 use Rattle.rsml_meaning.specs.Words.{Each, Instance}
 use Rattle.rsml_meaning.specs.Worlds.{IsWorld}
 use Rattle.rsml_meaning.specs.Chains.{is_external}
+use Rattle.rsml_meaning.specs.Truth.{view}
 use Rattle.rsml_meaning.specs.Transitions.{transitions}
 use Rattle.rsml_meaning.specs.Interfaces.{ReceiveInstance, receives, send_cases}
 use Rattle.rsml_meaning.specs.Runs.{latched}
@@ -14,7 +15,7 @@ use Rattle.macros.specs.Known.{Knows}
 use Rattle.interfaces.specs.Writes.{AreTyped}
 use Rattle.elaborate.specs.Machine.{GroundMachine}
 use Rattle.micro_step.specs.declared.events.Events.{Events}
-use Rattle.micro_step.specs.Micros.{AreEvents, events_in}
+use Rattle.micro_step.specs.Micros.{AreEvents, events_in, enabled_numbers, sending_numbers}
 use Rattle.micro_step.specs.Numbers.{Kept, IsFor, left_by, of_cases}
 use Rattle.micro_step.specs.Places.{ArePlaces}
 
@@ -94,9 +95,12 @@ pub record WasRound (s : Spec) (l : LastRound) (r : Round) : Type 0 where
   pub sent_are : ArePlaces (send_cases s) (map (λ c. c.send_case) r.sent) l.sent
   pub values_are : map (λ c. c.values) r.sent ≡ l.values
 
--- The last round began in world w with these present events, and was a micro-step that left world w' and the raised events.
+-- The last round began in world w with these present events, and was a micro-step that left world w' and the raised events. Its numbers
+-- are those of all transitions and of all cases of sends that were enabled.
 pub record RoundIsDone (s : Spec) (w : World) (present : List Instance) (l : LastRound) (w' : World) (raised : List Instance) : Type 0 where
   pub round : Round
   pub is : IsRound s w present round w' raised
   pub began : l.world ≡ w
   pub last_is : WasRound s l round
+  pub all_taken : l.taken ≡ enabled_numbers s (view s w) present
+  pub all_sent : l.sent ≡ sending_numbers s (view s w) present

@@ -1,6 +1,6 @@
 use Rattle.std.proofs.Common.{◌<◌, get_or, length, map, refl, arith}
-use Rattle.std.proofs.lemmas.List.{length-map}
-use Rattle.micro_step.proofs.LoopLemmas.{each_at, as_many, list_at, map_set, room_kept, cases_more}
+use Rattle.std.proofs.lemmas.List.{length-map, map-set}
+use Rattle.micro_step.proofs.LoopLemmas.{each_at, as_many, list_at, room_kept, cases_more}
 use Rattle.micro_step.proofs.values.write_all.Goals as goal
 
 pub index_mut-requires : goal.index_mut-requires
@@ -28,7 +28,7 @@ loop-case-preserved c =
     let w = c.args.world.now in
     let k = get_or c.args.sent.now c.loop-case.case-index 0 in
     let lists = map (λ v. v.items) c.loop-case.values.items in
-    let new = map_set (λ v. v.items) c.loop-case.values.items k c.write_case.new.numbers in
+    let new = map-set (λ v. v.items) c.loop-case.values.items k c.write_case.new.numbers in
     record {
       knows = c.write_case.ensures.knows;
       room = room_kept m w k lists _ c.write_case.new.numbers.items c.loop-case.invariant.room c.write_case.ensures.numbers new;

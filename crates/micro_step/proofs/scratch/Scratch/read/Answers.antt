@@ -7,4 +7,4 @@ pub invariant_of-self : goal.invariant_of-self
 invariant_of-self c =
     sym (length-map c.write_all.new.values.items (λ v. v.items))
     ∙ as_many c.args.machine.now (map (λ v. v.items) c.write_all.new.values.items) c.write_all.ensures.room
-    ∙ sym c.send.ensures.bound
+    ∙ sym c.read_all.ensures.reading.sent
