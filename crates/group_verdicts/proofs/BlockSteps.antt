@@ -15,13 +15,13 @@ use Rattle.guard_encode.specs.declared.reading.ReadParts.{ReadParts}
 use Rattle.guard_encode.specs.Encoding.{Encoding, Finds, Keeps, Tells}
 use Rattle.guard_encode.proofs.FindLemmas.{found_on}
 use Rattle.guard_encode.proofs.StepLemmas.{keeps_on}
-use Rattle.group_verdicts.specs.Narrowing.{IsOfNone, Narrows, IsLow, IsOfRead, AreLeast, AreUnread, low_of, lows}
+use Rattle.group_verdicts.specs.Narrowing.{IsOfNone, Narrows, IsLow, IsOfRead, AreLeast, low_of, lows}
 use Rattle.group_verdicts.specs.Finding.{FindsPassing, IsLeastPart, NarrowedLow, NarrowedOn, NarrowedTo, TellsLeast}
-use Rattle.group_verdicts.proofs.LowBlocks.{are_lows, block_narrows, blocks_fixed, lows_length, same_numbers}
-use Rattle.group_verdicts.proofs.Keeping.{on_new, on_old}
+use Rattle.group_verdicts.proofs.LowBlocks.{block_narrows, blocks_fixed, lows_length}
+use Rattle.group_verdicts.proofs.Keeping.{on_new, on_old, some_on}
 use Rattle.group_verdicts.proofs.ListSteps.{least_part, narrowed_all, narrowed_more}
 use Rattle.group_verdicts.proofs.Low.{is_low, low_is_world, read_value}
-use Rattle.group_verdicts.proofs.LowSteps.{alike, low_already}
+use Rattle.group_verdicts.proofs.LowSteps.{alike}
 use Rattle.group_verdicts.proofs.Parts.{many_cells, number_above}
 
 -- What is told of a block.
@@ -97,14 +97,6 @@ read_cell a b read c from place low f r ab order at is_low is h told = record {
 
 -- What is narrowed down.
 
--- in a block none of whose cells is read, all have their least numbers already
-pub unread_block : (e : Encoding) (read : ReadParts) (from to f : ℕ) → from ≤ to → to ≤ length (cells e.machine.base.spec) → AreUnread read from to
-    → NarrowedLow e e read (slice_cmp int_cmp) (λ w. take (to - from) (drop from w.cells)) (lows e.machine.base.spec from to) f f
-unread_block e read from to f order within unread =
-    low_already e read (slice_cmp int_cmp) (λ w. take (to - from) (drop from w.cells)) (lows e.machine.base.spec from to) f
-    (same_numbers (lows e.machine.base.spec from to))
-    (λ w is. are_lows e.machine.base.spec read from to w order within is (λ k c after less at own. absurd (true≢false (sym own ∙ unread k after less))))
-
 -- whether cells that are read have their least numbers, a world tells as the low one does
 low_alike : (s : Spec) (read : ReadParts) (from to : ℕ) (test : World → Bool)
     → ((w : World) → IsWorld s w → IsTrue (test w) ↔ AreLeast s read from to w) → IsOfRead s read test
@@ -125,7 +117,7 @@ low_block a b c read from to f test (Some r) ab bc order within h passing = λ t
     let s = a.machine.base.spec in
     let exact = on_old (λ z. (w : World) → IsWorld z w → IsTrue (h.test w) ↔ AreLeast z read from to w) a b ab h.exact in
     let ac = keeps_on a b c ab bc in
-    let p = passing h.test h.told truth (found_on a b truth f ab found) in
+    let p = passing h.test h.told truth (found_on a b truth f ab found) (some_on a b truth ab (λ none. some (λ w is. none w is.is_world))) in
     let next : World → Bool = λ w. truth w && h.test w in
     let test_of_read = low_alike s read from to h.test exact in
     let next_of_read : IsOfRead s read next = λ w is i. of_read w is i && test_of_read w is i in

@@ -1,6 +1,5 @@
 -- What is found of the group at a place.
-use Rattle.std.proofs.Common.{◌≡◌, ℕ, ◌<◌, ◌≤◌, Bool, length, Some, inl, inr, slice_get, sym, subst, arith}
-use Rattle.std.proofs.lemmas.Option.{slice_get_cases}
+use Rattle.std.proofs.Common.{◌≡◌, ℕ, ◌<◌, Bool, length, Some, slice_get, sym, subst}
 use Rattle.rsml_syntax.specs.declared.syntax.Spec.{Spec}
 use Rattle.rsml_syntax.specs.declared.world.World.{World}
 use Rattle.rsml_meaning.specs.Findings as findings
@@ -8,8 +7,9 @@ use Rattle.rsml_meaning.specs.Findings.{IsVerdict}
 use Rattle.rsml_meaning.specs.Groups.{Group, groups}
 use Rattle.group_verdicts.specs.Least.{IsLeastWorld}
 use Rattle.elaborate.specs.Machine.{GroundMachine}
-use Rattle.guard_encode.specs.Encoding.{Encoding, Keeps, Tells, TellsExactly}
+use Rattle.guard_encode.specs.Encoding.{Encoding, Keeps, TellsExactly}
 use Rattle.group_verdicts.specs.Failing.{enables_none, enables_two}
+use Rattle.group_verdicts.proofs.AtLemmas as at_place
 use Rattle.group_verdicts.proofs.FailLemmas.{Nowhere, least_none, least_two, no_none, sound}
 
 -- this is so of the group at a place
@@ -24,39 +24,31 @@ TellsFailing e group fails r = (g : Group) → slice_get (groups e.machine.base.
 pub at_on : (old new : Encoding) (group : ℕ) (Is : Spec → Group → Type 0) → Keeps old new → IsAt old.machine.base.spec group Is → IsAt new.machine.base.spec group Is
 at_on old new group Is keeps is = subst (λ (m : GroundMachine). IsAt m.base.spec group Is) (sym keeps.machine) is
 
-pub there_on : (old new : Encoding) (group : ℕ) → Keeps old new → group < length (groups old.machine.base.spec) → group < length (groups new.machine.base.spec)
-there_on old new group keeps less = subst (λ (m : GroundMachine). group < length (groups m.base.spec)) (sym keeps.machine) less
-
 -- what tells something of the group at a place is a handle
 pub ref_at : (e : Encoding) (group r : ℕ) (fails : Spec → Group → World → Bool) → group < length (groups e.machine.base.spec) → TellsFailing e group fails r → r < length e.diagram.nodes
-ref_at e group r fails less tells =
-    let cases = (slice_get_cases (groups e.machine.base.spec) group).1 in
-    elim cases [
-      | inl there ↦ (tells there.0 there.2).told.is_ref
-      | inr past ↦ absurd (let late : length (groups e.machine.base.spec) ≤ group = past.0 in omega (arith, less, late))
-    ]
+ref_at e group r fails less tells = at_place.ref_at e group r fails less (λ g at. (tells g at).told)
 
--- what is answered of each truth that r tells is so of the worlds in which the group fails
+-- what is answered of each truth that r tells exactly is so of the worlds in which the group fails
 answered : (old new : Encoding) (group r : ℕ) (fails : Spec → Group → World → Bool) (Is : Spec → (World → Bool) → Type 0) → Keeps old new → TellsFailing old group fails r
-    → ((truth : World → Bool) → Tells old truth r → Is new.machine.base.spec truth) → IsAt new.machine.base.spec group (λ s g. Is s (fails s g))
+    → ((truth : World → Bool) → TellsExactly old truth r → Is new.machine.base.spec truth) → IsAt new.machine.base.spec group (λ s g. Is s (fails s g))
 answered old new group r fails Is keeps tells answer =
     subst (λ (m : GroundMachine). (g : Group) → slice_get (groups m.base.spec) group ≡ Some g → Is new.machine.base.spec (fails m.base.spec g)) (sym keeps.machine)
-    (λ g at. answer (fails old.machine.base.spec g) (tells g at).told)
+    (λ g at. answer (fails old.machine.base.spec g) (tells g at))
 
 -- it fails in no world
 pub nowhere : (old new : Encoding) (group r : ℕ) (fails : Spec → Group → World → Bool) → Keeps old new → TellsFailing old group fails r
-    → ((truth : World → Bool) → Tells old truth r → Nowhere new.machine.base.spec truth) → IsAt new.machine.base.spec group (λ s g. Nowhere s (fails s g))
+    → ((truth : World → Bool) → TellsExactly old truth r → Nowhere new.machine.base.spec truth) → IsAt new.machine.base.spec group (λ s g. Nowhere s (fails s g))
 nowhere old new group r fails = answered old new group r fails Nowhere
 
 -- in this world it enables none, and in none before
 pub missing : (old new : Encoding) (group r : ℕ) (w : World) → Keeps old new → TellsFailing old group enables_none r
-    → ((truth : World → Bool) → Tells old truth r → IsLeastWorld new.machine.base.spec truth w) → IsAt new.machine.base.spec group (λ s g. IsVerdict s g (findings.none w))
+    → ((truth : World → Bool) → TellsExactly old truth r → IsLeastWorld new.machine.base.spec truth w) → IsAt new.machine.base.spec group (λ s g. IsVerdict s g (findings.none w))
 missing old new group r w keeps tells answer = λ g at.
     least_none new.machine.base.spec g w (answered old new group r enables_none (λ s truth. IsLeastWorld s truth w) keeps tells answer g at)
 
 -- in no world it enables none, in this one it enables two, and in none before
 pub double : (old new : Encoding) (group r : ℕ) (w : World) → Keeps old new → IsAt old.machine.base.spec group (λ s g. Nowhere s (enables_none s g)) → TellsFailing old group enables_two r
-    → ((truth : World → Bool) → Tells old truth r → IsLeastWorld new.machine.base.spec truth w) → IsAt new.machine.base.spec group (λ s g. IsVerdict s g (findings.two w))
+    → ((truth : World → Bool) → TellsExactly old truth r → IsLeastWorld new.machine.base.spec truth w) → IsAt new.machine.base.spec group (λ s g. IsVerdict s g (findings.two w))
 double old new group r w keeps none tells answer = λ g at.
     let s = new.machine.base.spec in (
       no_none s g (at_on old new group (λ t h. Nowhere t (enables_none t h)) keeps none g at),
@@ -65,7 +57,7 @@ double old new group r w keeps none tells answer = λ g at.
 
 -- in no world it enables none, and in none it enables two
 pub neither : (old new : Encoding) (group r : ℕ) → Keeps old new → IsAt old.machine.base.spec group (λ s g. Nowhere s (enables_none s g)) → TellsFailing old group enables_two r
-    → ((truth : World → Bool) → Tells old truth r → Nowhere new.machine.base.spec truth) → IsAt new.machine.base.spec group (λ s g. IsVerdict s g findings.sound)
+    → ((truth : World → Bool) → TellsExactly old truth r → Nowhere new.machine.base.spec truth) → IsAt new.machine.base.spec group (λ s g. IsVerdict s g findings.sound)
 neither old new group r keeps none tells answer = λ g at.
     let s = new.machine.base.spec in
     sound s g (at_on old new group (λ t h. Nowhere t (enables_none t h)) keeps none g at) (answered old new group r enables_two Nowhere keeps tells answer g at)

@@ -6,6 +6,7 @@ use Rattle.std.specs.Cmp.Lexicographic.{pointwise, slice_cmp}
 use Rattle.std.specs.Ordering.{MatchOrdering, ordering_then, nat_cmp, int_cmp}
 use Rattle.std.specs.declared.cmp.Ordering.{Ordering}
 use Rattle.std.specs.declared.cmp.Ordering.TheVariants.{Less, Equal, Greater}
+use Rattle.std.proofs.lemmas.Bool.{and_from}
 use Rattle.std.proofs.lemmas.Bool.Decides.{nat_tests}
 use Rattle.std.proofs.lemmas.Cmp.{ranked, int_ranked}
 use Rattle.std.proofs.lemmas.Int.{ints}
@@ -13,18 +14,14 @@ use Rattle.std.proofs.lemmas.Option.{same_Some}
 use Rattle.rsml_syntax.specs.declared.syntax.Spec.{Spec}
 use Rattle.rsml_syntax.specs.declared.world.World.{World}
 use Rattle.rsml_meaning.specs.Instances.{Component, components}
-use Rattle.rsml_meaning.specs.Cells.{InputCell, cells, is_of}
+use Rattle.rsml_meaning.specs.Cells.{InputCell, cells}
 use Rattle.rsml_meaning.specs.Worlds.{IsWorld, is_choice, world_cmp}
 use Rattle.guard_encode.specs.declared.reading.ReadParts.{ReadParts}
 use Rattle.guard_encode.specs.Reading.{DifferInChoice}
 use Rattle.group_verdicts.specs.Narrowing.{IsLow, IsOfRead, low_of, lowered}
-use Rattle.group_verdicts.proofs.Parts.{cells_are, choices_are}
+use Rattle.group_verdicts.proofs.Parts.{cells_are, choices_are, fits}
 
 -- Lists of values.
-
-both : (a b : Bool) → a ≡ true → b ≡ true → (a && b) ≡ true
-both true b h k = k
-both false b h k = h
 
 -- what passes a test still does
 still_pass : {A B : Type 0} (t : A → B → Bool) (l : A → B) → ((x : A) (y : B) → t x y ≡ true → t x (l x) ≡ true)
@@ -33,7 +30,7 @@ still_pass t l least [] xs ys h = h
 still_pass t l least (r ∷ read) [] ys h = h
 still_pass t l least (r ∷ read) (x ∷ xs) [] h = absurd (true≢false (sym h))
 still_pass t l least (r ∷ read) (x ∷ xs) (y ∷ ys) h =
-    both (t x (if r then y else l x)) (pointwise t xs (lowered read (map l xs) ys)) (here r)
+    and_from (t x (if r then y else l x)) (pointwise t xs (lowered read (map l xs) ys)) (here r)
     (still_pass t l least read xs ys (second_so (t x y) (pointwise t xs ys) h))
   where
     here : (b : Bool) → t x (if b then y else l x) ≡ true
@@ -91,14 +88,11 @@ one_by_one {B} test Fits (r ∷ read) (l ∷ ls) (y ∷ ys) ignored fit =
 least_child : (c : Component) (n : ℕ) → is_choice c n ≡ true → is_choice c 0 ≡ true
 least_child c n h = grind (arith, nat_tests, h)
 
-abbrev fits : InputCell → ℤ → Bool
-fits c n = is_of c.numbers n
-
 low_end : (low high n : ℤ) → (int_le low n && int_le n high) ≡ true → (int_le low low && int_le low high) ≡ true
 low_end low high n h =
     let a = first_so (int_le low n) (int_le n high) h in
     let b = second_so (int_le low n) (int_le n high) h in
-    both (int_le low low) (int_le low high) (let e : int_le low low ≡ true = grind (arith, ints) in e) (let e : int_le low high ≡ true = grind (arith, ints, a, b) in e)
+    and_from (int_le low low) (int_le low high) (let e : int_le low low ≡ true = grind (arith, ints) in e) (let e : int_le low high ≡ true = grind (arith, ints, a, b) in e)
 
 least_number : (c : InputCell) (n : ℤ) → fits c n ≡ true → fits c c.numbers.low ≡ true
 least_number c n h = low_end c.numbers.low c.numbers.high n h
@@ -106,7 +100,7 @@ least_number c n h = low_end c.numbers.low c.numbers.high n h
 -- it is a world
 pub low_is_world : (s : Spec) (read : ReadParts) (w : World) → IsWorld s w → IsWorld s (low_of s read w)
 low_is_world s read w is =
-    both (pointwise is_choice (components s) (lowered read.choices (map (λ c. 0) (components s)) w.choices))
+    and_from (pointwise is_choice (components s) (lowered read.choices (map (λ c. 0) (components s)) w.choices))
     (pointwise fits (cells s) (lowered read.cells (map (λ c. c.numbers.low) (cells s)) w.cells))
     (still_pass is_choice (λ c. 0) least_child read.choices (components s) w.choices (choices_are s w is))
     (still_pass fits (λ c. c.numbers.low) least_number read.cells (cells s) w.cells (cells_are s w is))

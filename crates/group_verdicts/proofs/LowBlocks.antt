@@ -17,7 +17,7 @@ use Rattle.rsml_meaning.specs.Cells.{InputCell, cells}
 use Rattle.state_tree.proofs.Lists.{within_get}
 use Rattle.guard_encode.specs.declared.reading.ReadParts.{ReadParts}
 use Rattle.group_verdicts.specs.Narrowing.{IsOfNone, Narrows, IsLow, AreLeast, lows}
-use Rattle.group_verdicts.proofs.LowSteps.{int_itself, unmarked}
+use Rattle.group_verdicts.proofs.LowSteps.{unmarked}
 use Rattle.group_verdicts.proofs.Narrowed.{fixed_both}
 use Rattle.group_verdicts.proofs.Parts.{fits, cells_are, many_cells, cmp_append}
 
@@ -76,11 +76,6 @@ none_before (c ∷ cs) (n ∷ ns) h =
     by rest Less m = less m
     by rest Equal m = matched (slice_cmp int_cmp ns (map (λ c. c.numbers.low) cs)) (λ e i. m i ∷ e i) rest
     by rest Greater m = tt
-
--- numbers compare as equal with themselves
-pub same_numbers : (ns : List ℤ) → slice_cmp int_cmp ns ns ≡ Equal
-same_numbers [] = refl
-same_numbers (n ∷ ns) = ap (λ o. ordering_then o (slice_cmp int_cmp ns ns)) (int_itself n) ∙ same_numbers ns
 
 -- Worlds.
 

@@ -71,7 +71,7 @@ low_too a b read cmp part least f r keeps itself same h = λ truth found of_read
 nat_itself : (x : ℕ) → nat_cmp x x ≡ Equal
 nat_itself x = sym (nat_cmp_is x x Equal refl)
 
-pub int_itself : (x : ℤ) → int_cmp x x ≡ Equal
+int_itself : (x : ℤ) → int_cmp x x ≡ Equal
 int_itself x = sym (int_cmp_is x x Equal refl)
 
 -- a component that is not read has its first child

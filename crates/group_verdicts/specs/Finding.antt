@@ -1,5 +1,5 @@
 -- What handles find while worlds are narrowed down.
-use Rattle.std.specs.Prelude.{ℕ, ◌↔◌, Bool, ◌&&◌, IsTrue, List, length, take, Option, MatchOption, ℤ}
+use Rattle.std.specs.Prelude.{ℕ, ◌↔◌, Bool, ◌&&◌, not, IsTrue, List, length, take, Option, MatchOption, ℤ}
 use Rattle.std.specs.Ordering.{int_cmp}
 use Rattle.std.specs.Cmp.Lexicographic.{slice_cmp}
 use Rattle.std.specs.declared.cmp.Ordering.{Ordering}
@@ -13,9 +13,13 @@ use Rattle.group_verdicts.specs.Narrowing.{IsOfNone, Narrows, Bounds, IsLow, IsO
 abbrev pub IsOfSome : Encoding → (World → Bool) → Type 0
 IsOfSome e truth = IsOfNone (IsWorld e.machine.base.spec) truth → ⊥
 
--- some of the worlds that f finds pass a test, and r finds those; or none of them does
+-- all worlds that f finds pass a test
+abbrev pub AllPass : Encoding → Encoding → (World → Bool) → ℕ → Type 0
+AllPass old new test f = (truth : World → Bool) → Finds old truth f → IsOfNone (IsWorld new.machine.base.spec) (λ w. truth w && not (test w))
+
+-- if there are worlds that f finds, some of them pass a test, and r finds those; or none of them does
 abbrev pub FindsPassing : Encoding → Encoding → (World → Bool) → ℕ → Option ℕ → Type 0
-FindsPassing old new test f found = (truth : World → Bool) → Finds old truth f
+FindsPassing old new test f found = (truth : World → Bool) → Finds old truth f → IsOfSome old truth
     → MatchOption found (IsOfNone (IsWorld new.machine.base.spec) (λ w. truth w && test w))
     (λ r. Finds new (λ w. truth w && test w) r × IsOfSome new (λ w. truth w && test w))
 

@@ -56,10 +56,6 @@ abbrev pub AreLeast : Spec → ReadParts → ℕ → ℕ → World → Type 0
 AreLeast s read from to w = (k : ℕ) (c : InputCell) → from ≤ k → k < to → slice_get (cells s) k ≡ Some c
     → slice_index_or read.cells k true ≡ true → slice_index_or w.cells k (pos 0) ≡ c.numbers.low
 
--- none of the cells from a place to another is read
-abbrev pub AreUnread : ReadParts → ℕ → ℕ → Type 0
-AreUnread read from to = (k : ℕ) → from ≤ k → k < to → slice_index_or read.cells k true ≡ false
-
 -- the least numbers that the cells from a place to another may hold
 abbrev pub lows : Spec → ℕ → ℕ → List ℤ
 lows s from to = map (λ c. c.numbers.low) (take (to - from) (drop from (cells s)))

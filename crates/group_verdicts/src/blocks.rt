@@ -5,7 +5,7 @@ ghost use Rattle.std.specs.Cmp.Lexicographic.{slice_cmp};
 ghost use Rattle.rsml_meaning.specs.Cells.{cells as all_cells};
 ghost use Rattle.bdd_core.specs.Diagram.{IsRef};
 ghost use Rattle.guard_encode.specs.Encoding.{Keeps};
-ghost use Rattle.group_verdicts.specs.Narrowing.{AreUnread, lows};
+ghost use Rattle.group_verdicts.specs.Narrowing.{lows};
 ghost use Rattle.group_verdicts.specs.Finding.{NarrowedLow, NarrowedOn, TellsLeast};
 
 use crate::passing::passing;
@@ -35,9 +35,7 @@ pub(crate) fn block_end(read: &ReadParts, from: usize, many: usize, cells: usize
 }
 
 /// How many cells of a block are read.
-pub(crate) fn count_read(read: &ReadParts, from: usize, to: usize) -> usize
-    ensures { result ≡ 0 → AreUnread read.now from to }
-{
+pub(crate) fn count_read(read: &ReadParts, from: usize, to: usize) -> usize {
     let mut count = 0;
     for place in from..to {
         if is_read(&read.cells, place) {
@@ -94,9 +92,6 @@ fn low_block(
     ensures answer { IfOk result (λ found. IfSome found (NarrowedLow encoder.old encoder.new read.now (slice_cmp int_cmp)
         (λ w. take (to - from) (drop from w.cells)) (lows encoder.old.machine.base.spec from to) f)) }
 {
-    if count_read(read, from, to) == 0 {
-        return Ok(Some(f));
-    }
     let test = low_test(encoder, read, from, to)?;
     passing(alloc, encoder, f, test)
 }

@@ -5,7 +5,7 @@ ghost use Rattle.std.specs.Cmp.Lexicographic.{slice_cmp};
 ghost use Rattle.rsml_meaning.specs.Cells.{cells as all_cells};
 ghost use Rattle.bdd_core.specs.Diagram.{IsRef};
 ghost use Rattle.guard_encode.specs.Encoding.{Keeps};
-ghost use Rattle.group_verdicts.specs.Finding.{Bounded, Narrowed, NarrowedLow, NarrowedOn, IsLeastPart};
+ghost use Rattle.group_verdicts.specs.Finding.{Bounded, NarrowedLow, NarrowedOn, IsLeastPart};
 
 use crate::blocks::{block_end, count_read, with_low_block};
 use crate::reading::{cell_number, is_read};
@@ -160,15 +160,16 @@ fn one_by_one(
 {
     let mut rest = f;
     for place in numbers.len()..end {
-        let (number, next) = number_of(alloc, encoder, read, cell_number(place)?, rest)?;
+        let (number, next) = least_number(alloc, encoder, read, cell_number(place)?, rest)?;
         numbers.push(number)?;
         rest = next;
     }
     Ok(rest)
 }
 
-/// The least number of a cell: the least of all, where it is not read.
-fn number_of(
+/// The least number of a cell with which `f` is true in some world, and `f` where the cell has it. The least of all, where it is not
+/// read. Where `f` is true in none, any number.
+fn least_number(
     alloc: Global,
     encoder: &mut Encoder<'_, '_>,
     read: &ReadParts,
@@ -184,23 +185,6 @@ fn number_of(
     if !is_read(&read.cells, cell as usize) {
         return Ok((encoder.machine().worlds().low(cell), f));
     }
-    least_number(alloc, encoder, cell, f)
-}
-
-/// The least number of a cell with which `f` is true in some world, and `f` where the cell has it. Where `f` is true in none, any
-/// number.
-fn least_number(
-    alloc: Global,
-    encoder: &mut Encoder<'_, '_>,
-    cell: u32,
-    f: Ref,
-) -> Result<(i64, Ref), NoMemory>
-    requires f_ref { IsRef encoder.old.diagram f }
-    requires cell { cell < length (all_cells encoder.old.machine.base.spec) }
-    ensures keeps { Keeps encoder.old encoder.new }
-    ensures is_ref { IfOk result (λ found. IsRef encoder.new.diagram found.1) }
-    ensures answer { IfOk result (λ found. Narrowed encoder.old encoder.new int_cmp (λ w. slice_index_or w.cells cell (pos 0)) found.0 f found.1) }
-{
     let number = least_by_halving(alloc, encoder, cell, f)?;
     let rest = encoder.fixed(f, cell, number)?;
     Ok((number, rest))

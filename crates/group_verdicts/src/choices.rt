@@ -5,7 +5,7 @@ ghost use Rattle.std.specs.Cmp.Lexicographic.{slice_cmp};
 ghost use Rattle.rsml_meaning.specs.Instances.{components};
 ghost use Rattle.bdd_core.specs.Diagram.{IsRef};
 ghost use Rattle.guard_encode.specs.Encoding.{Keeps};
-ghost use Rattle.group_verdicts.specs.Finding.{Narrowed, NarrowedLow};
+ghost use Rattle.group_verdicts.specs.Finding.{NarrowedLow};
 
 use crate::passing::with_child;
 use crate::reading::is_read;
@@ -30,15 +30,16 @@ pub(crate) fn least_choices(
     let mut choices = List::new(alloc);
     let mut rest = f;
     for component in 0..tree.components() {
-        let (place, next) = child_of(alloc, encoder, read, component, rest)?;
+        let (place, next) = least_child(alloc, encoder, read, component, rest)?;
         choices.push(place)?;
         rest = next;
     }
     Ok((choices, rest))
 }
 
-/// The least child of a component: the first, where it is not read.
-fn child_of(
+/// The least child of a component with which `f` is true in some world, and `f` where the component has it. The first, where it is
+/// not read. Where `f` is true in none, any child.
+fn least_child(
     alloc: Global,
     encoder: &mut Encoder<'_, '_>,
     read: &ReadParts,
@@ -54,23 +55,6 @@ fn child_of(
     if !is_read(&read.choices, component as usize) {
         return Ok((0, f));
     }
-    least_child(alloc, encoder, component, f)
-}
-
-/// The least child of a component with which `f` is true in some world, and `f` where the component has it. Where `f` is true in
-/// none, any child.
-fn least_child(
-    alloc: Global,
-    encoder: &mut Encoder<'_, '_>,
-    component: u32,
-    f: Ref,
-) -> Result<(u8, Ref), NoMemory>
-    requires f_ref { IsRef encoder.old.diagram f }
-    requires component { component < length (components encoder.old.machine.base.spec) }
-    ensures keeps { Keeps encoder.old encoder.new }
-    ensures is_ref { IfOk result (λ found. IsRef encoder.new.diagram found.1) }
-    ensures answer { IfOk result (λ found. Narrowed encoder.old encoder.new nat_cmp (λ w. slice_index_or w.choices component 0) found.0 f found.1) }
-{
     let children = encoder.machine().tree().children(component);
     for place in 0..children {
         if let Some(rest) = with_child(alloc, encoder, f, component, place)? {

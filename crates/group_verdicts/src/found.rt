@@ -37,6 +37,25 @@ pub fn verdicts_by(alloc: Global, encoder: &mut Encoder<'_, '_>) -> Result<Vec<V
     Ok(verdicts)
 }
 
+/// The first group of a machine for whose verdict memory is refused. None where it is refused for none, or before the first.
+pub fn refused_group(alloc: Global, machine: &Machine<'_>) -> Option<u32> {
+    let mut encoder = Encoder::new(alloc, machine).ok()?;
+    first_refused(alloc, &mut encoder)
+}
+
+/// The same, by the diagrams of an encoder of the machine.
+fn first_refused(alloc: Global, encoder: &mut Encoder<'_, '_>) -> Option<u32> {
+    let machine = encoder.machine();
+    let mut counts = Counts::new(alloc, machine).ok()?;
+    let groups = machine.groups().count();
+    for group in 0..groups {
+        if verdict(alloc, encoder, &mut counts, group).is_err() {
+            return Some(group);
+        }
+    }
+    None
+}
+
 /// What is found of a group.
 fn verdict(
     alloc: Global,

@@ -13,4 +13,4 @@ mod least;
 mod passing;
 mod reading;
 
-pub use found::{verdicts, verdicts_by};
+pub use found::{refused_group, verdicts, verdicts_by};

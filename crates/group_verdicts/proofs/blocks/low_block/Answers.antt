@@ -1,10 +1,6 @@
 use Rattle.std.proofs.lemmas.Result.{IfOk-weaker}
-use Rattle.group_verdicts.proofs.BlockSteps.{low_block, unread_block}
+use Rattle.group_verdicts.proofs.BlockSteps.{low_block}
 use Rattle.group_verdicts.proofs.blocks.low_block.Goals as goal
-
-pub returns-then-count_read-eq0-clause-answer : goal.returns-then-count_read-eq0-clause-answer
-returns-then-count_read-eq0-clause-answer c =
-    unread_block c.args.encoder.now c.args.read.now c.args.from c.args.to c.args.f c.requires.from c.requires.to (c.count_read.ensures c.if-count_read-eq0.true)
 
 pub returns-clause-answer : goal.returns-clause-answer
 returns-clause-answer c =

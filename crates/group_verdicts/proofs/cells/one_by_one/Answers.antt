@@ -13,7 +13,7 @@ pub loop-place-preserved : goal.loop-place-preserved
 loop-place-preserved c =
     let a = c.args.encoder.now in
     let b = c.loop-place.encoder in
-    let d = c.number_of.new.encoder in
+    let d = c.least_number.new.encoder in
     let before = c.loop-place.invariant in
     let xs = c.loop-place.numbers in
     let n = c.loop-place.place in

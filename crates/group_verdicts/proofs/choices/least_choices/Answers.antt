@@ -15,7 +15,7 @@ pub loop-component-preserved : goal.loop-component-preserved
 loop-component-preserved c =
     let a = c.args.encoder.now in
     let b = c.loop-component.encoder in
-    let d = c.child_of.new.encoder in
+    let d = c.least_child.new.encoder in
     let before = c.loop-component.invariant in
     let xs = c.loop-component.choices in
     let n = c.loop-component.component in

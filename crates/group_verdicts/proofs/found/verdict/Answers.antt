@@ -2,9 +2,10 @@ use Rattle.std.proofs.lemmas.Option.{MatchOption-at_none, MatchOption-at_some}
 use Rattle.group_verdicts.specs.Least.{IsLeastWorld}
 use Rattle.guard_encode.proofs.StepLemmas.{keeps_on}
 use Rattle.group_verdicts.specs.Failing.{enables_none, enables_two}
+use Rattle.group_verdicts.proofs.AtLemmas.{there_on}
 use Rattle.group_verdicts.proofs.CountsLemmas.{counts_on}
 use Rattle.group_verdicts.proofs.FailLemmas.{Nowhere}
-use Rattle.group_verdicts.proofs.FoundLemmas.{at_on, double, missing, neither, nowhere, ref_at, there_on}
+use Rattle.group_verdicts.proofs.FoundLemmas.{at_on, double, missing, neither, nowhere, ref_at}
 use Rattle.group_verdicts.proofs.found.verdict.Goals as goal
 
 pub least_world-requires : goal.least_world-requires
