@@ -7,8 +7,9 @@ use crate::chains::chains_of;
 use crate::tell_enabled;
 use elaborate::{Machine, elaborate};
 use event_chains::Chains;
-use finding_notes::tell_findings;
+use finding_notes::{tell_findings, tell_refused};
 use finding_texts::Verdict;
+use group_verdicts::refused_group;
 use guard_encode::Encoder;
 use instance_texts::Texts;
 use rsml_names::Globals;
@@ -18,25 +19,34 @@ use specification_notes::tell_unused;
 use std::alloc::Global;
 use written_members::{Scene, Source, tell_clashes, tell_loops};
 
-/// A specification that was read from a file of this name, and what was found of its groups.
+/// A specification that was read from a file of this name, and what was found of its groups, unless memory was refused for that.
 #[derive(Clone, Copy)]
 struct Subject<'s> {
     file: &'s [u8],
     checked: &'s Checked,
-    verdicts: &'s [Verdict],
+    verdicts: Option<&'s [Verdict]>,
+}
+
+/// Tells for which group memory is refused.
+fn tell_refusal(notes: &mut Notes<'_>, scene: &Scene<'_, '_>) -> Result<(), NoMemory> {
+    match refused_group(notes.alloc(), scene.machine) {
+        Some(group) => tell_refused(notes, scene, group),
+        None => Ok(()),
+    }
 }
 
 /// Tells all, in order.
 fn tell_all(
     notes: &mut Notes<'_>,
     subject: Subject<'_>,
+    verdicts: &[Verdict],
     scene: &Scene<'_, '_>,
     chains: &Chains<'_>,
     encoder: &mut Encoder<'_, '_>,
 ) -> Result<(), NoMemory> {
     tell_loops(notes, scene, chains.loops())?;
     tell_clashes(notes, scene, chains.clashes())?;
-    tell_findings(notes, scene, encoder, subject.verdicts)?;
+    tell_findings(notes, scene, encoder, verdicts)?;
     tell_unused(notes, subject.checked.spec(), scene.globals)?;
     tell_enabled(notes, scene.machine, scene.globals, encoder)
 }
@@ -48,8 +58,11 @@ fn tell_scene(
     scene: &Scene<'_, '_>,
     chains: &Chains<'_>,
 ) -> Result<(), NoMemory> {
+    let Some(verdicts) = subject.verdicts else {
+        return tell_refusal(notes, scene);
+    };
     let mut encoder = Encoder::new(notes.alloc(), scene.machine)?;
-    tell_all(notes, subject, scene, chains, &mut encoder)
+    tell_all(notes, subject, verdicts, scene, chains, &mut encoder)
 }
 
 /// Makes the text without comments.
@@ -117,13 +130,14 @@ fn tell_subject(notes: &mut Notes<'_>, subject: Subject<'_>) -> Result<(), NoMem
 
 /// Comment lines on a specification of at most 2,097,152 tokens that was read from this text, in a file of this name: on the events
 /// that loop, on those that clash, and on each group that is not sound, by what was found of the groups; and then notes on what is not
-/// used, entered or reacted to, and on what is never enabled. The only error is out of memory.
+/// used, entered or reacted to, and on what is never enabled. Where nothing was found, since memory was refused, on the first group for
+/// which it is. The only error is out of memory.
 pub fn checked_notes(
     alloc: Global,
     file: &[u8],
     text: &[u8],
     checked: &Checked,
-    verdicts: &[Verdict],
+    verdicts: Option<&[Verdict]>,
 ) -> Result<Vec<u8>, NoMemory>
     requires { IsShort checked.now }
     ensures { IfOk result (λ v. AreComments v.items) }

@@ -1,4 +1,6 @@
 ghost use Rattle.std.specs.Prelude.{IfOk};
+ghost use Rattle.rsml_ground.specs.Grounded.{IsShort};
+ghost use Rattle.rsml_syntax.specs.grammar.WellFormed.{WellFormed};
 ghost use Rattle.source_notes.specs.Comments.{AreComments};
 ghost use Rattle.judging.specs.Judgements.{IsJudgement};
 ghost use Rattle.answering.specs.Outcomes.{answer_of, bytes_of};
@@ -9,9 +11,11 @@ use answering::Outcome;
 use checked_notes::checked_notes;
 use checking::judged;
 use explanations::fault_notes;
-use judging::{Judgement, judge};
+use judging::{Judgement, ReadText, judge, read_text};
 use rsml_base::put;
-use rsml_syntax::NoMemory;
+use rsml_lexer::GREATEST_TEXT;
+use rsml_rules::check_rules;
+use rsml_syntax::{NoMemory, Spec};
 use source_notes::Notes;
 use std::alloc::Global;
 
@@ -22,13 +26,20 @@ struct Source<'t> {
     text: &'t [u8],
 }
 
+/// No comment lines.
+fn no_notes(alloc: Global, source: Source<'_>) -> Result<Vec<u8>, NoMemory>
+    ensures { IfOk result (λ v. AreComments v.items) }
+{
+    Notes::new(alloc, source.file, source.text).bytes()
+}
+
 /// Comment lines on what a text is judged to be.
 fn notes_on(alloc: Global, source: Source<'_>, judgement: &Judgement) -> Result<Vec<u8>, NoMemory>
     requires { IsJudgement source.text.now judgement.now }
     ensures { IfOk result (λ v. AreComments v.items) }
 {
     match judgement {
-        Judgement::TooLong => Notes::new(alloc, source.file, source.text).bytes(),
+        Judgement::TooLong => no_notes(alloc, source),
         Judgement::Unread { .. } => fault_notes(alloc, source.file, source.text),
         Judgement::Broken { .. } => fault_notes(alloc, source.file, source.text),
         Judgement::Refused {
@@ -40,14 +51,14 @@ fn notes_on(alloc: Global, source: Source<'_>, judgement: &Judgement) -> Result<
             source.file,
             source.text,
             checked,
-            verdicts.as_slice(),
+            Some(verdicts.as_slice()),
         ),
         Judgement::Certified { checked, .. } => checked_notes(
             alloc,
             source.file,
             source.text,
             checked,
-            &[],
+            Some(&[]),
         ),
     }
 }
@@ -88,4 +99,31 @@ pub fn explain(alloc: Global, file: &[u8], text: &[u8]) -> Result<Outcome, NoMem
     let judgement = judge(alloc, text)?;
     let notes = notes_for(alloc, Source { file, text }, &judgement)?;
     followed_by(judged(judgement), notes.as_slice())
+}
+
+/// Comment lines on a specification for which memory was refused; none where it breaks a rule or a limit.
+fn specification_notes(alloc: Global, source: Source<'_>, spec: Spec) -> Result<Vec<u8>, NoMemory>
+    requires formed { WellFormed spec }
+    requires short { IsShort spec }
+    ensures { IfOk result (λ v. AreComments v.items) }
+{
+    match check_rules(alloc, spec) {
+        Ok(checked) => checked_notes(alloc, source.file, source.text, &checked, None),
+        Err(_) => no_notes(alloc, source),
+    }
+}
+
+/// Where `explain` ended with out of memory on the text of a file with this name: comment lines on the first group for which
+/// memory is refused. None where the text reads as no specification, or breaks a rule or a limit.
+pub fn memory_notes(alloc: Global, file: &[u8], text: &[u8]) -> Result<Vec<u8>, NoMemory>
+    ensures { IfOk result (λ v. AreComments v.items) }
+{
+    let source = Source { file, text };
+    if text.len() > GREATEST_TEXT {
+        return no_notes(alloc, source);
+    }
+    match read_text(alloc, text)? {
+        ReadText::Specification(spec) => specification_notes(alloc, source, spec),
+        ReadText::Fault(_) => no_notes(alloc, source),
+    }
 }

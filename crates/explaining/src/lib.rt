@@ -1,6 +1,6 @@
-//! What `explain` comes to on a text: what `check` does, and comment lines behind it.
+//! What `explain` comes to on a text: what `check` does, and comment lines behind it; and what is told where memory was refused.
 #![tactic(auto)]
 
 mod explaining;
 
-pub use explaining::explain;
+pub use explaining::{explain, memory_notes};

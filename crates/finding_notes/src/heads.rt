@@ -34,28 +34,34 @@ fn put_state(line: &mut Draft, scene: &Scene<'_, '_>, state: u32) {
     }
 }
 
-/// Puts of which so many members are enabled.
-fn put_kind(line: &mut Draft, scene: &Scene<'_, '_>, kind: GroupKind, count: usize) {
+/// Puts what a group is: a state or a send with an event, or a function.
+pub fn put_group(line: &mut Draft, scene: &Scene<'_, '_>, kind: GroupKind) {
     match kind {
         GroupKind::State { state, event } => {
-            put_enabled(line, count, b"transition is", b"transitions are");
             put_state(line, scene, state);
             line.put(b" on ");
             scene.texts.put_event(line, event);
         }
         GroupKind::Send { send, event } => {
-            put_enabled(line, count, b"case is", b"cases are");
             line.put(b"send ");
             scene.texts.put_send(line, send);
             line.put(b" on ");
             scene.texts.put_event(line, event);
         }
         GroupKind::Function(function) => {
-            put_enabled(line, count, b"case is", b"cases are");
             line.put(b"function ");
             scene.texts.put_function(line, function);
         }
     }
+}
+
+/// Puts of which so many members are enabled.
+fn put_kind(line: &mut Draft, scene: &Scene<'_, '_>, kind: GroupKind, count: usize) {
+    match kind {
+        GroupKind::State { .. } => put_enabled(line, count, b"transition is", b"transitions are"),
+        _ => put_enabled(line, count, b"case is", b"cases are"),
+    }
+    put_group(line, scene, kind);
 }
 
 /// Puts where the first member that is shown stands.

@@ -1,4 +1,5 @@
-//! What is found of the groups of a machine, for a person: comment lines with tables as they are in a world.
+//! What is found of the groups of a machine, for a person: comment lines with tables as they are in a world, and rows that
+//! would mend them.
 #![tactic(auto)]
 
 mod diagrams;
@@ -9,6 +10,7 @@ mod holdings;
 mod members;
 mod mending;
 mod reads;
+mod refused;
 mod sharing;
 mod shown;
 mod soundness;
@@ -18,6 +20,7 @@ mod truths;
 
 pub use diagrams::Added;
 pub use members::{member_at, member_count};
+pub use refused::tell_refused;
 pub use soundness::{Change, columns_stay, is_sound_with};
 pub use telling::tell_findings;
 pub use truth_table::{TruthTable, cell_at, fails, is_true, rows_of};

@@ -4,6 +4,7 @@
 mod acting;
 mod command;
 mod laws;
+mod memory;
 mod running;
 mod units;
 mod version;
@@ -13,4 +14,5 @@ pub use command::{Action, Command};
 pub use demonstrating::demo;
 pub use judging::{Judgement, judge};
 pub use laws::an_output_is_one;
+pub use memory::memory_lines;
 pub use running::run;

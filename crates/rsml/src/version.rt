@@ -1,5 +1,5 @@
 /// What `version` writes: the release, the edition of the notation, and the SHA-256 of the definitions that the contracts cite
 /// (`tools/definitions_sum.sh`).
 pub const VERSION: &[u8] = b"rsml 0.2.0 edition 2
-definitions 6aafe834711e967ddbb8d967481f13442e8e8343d6bd5a56486e5398d878e426
+definitions 21695d438f95b1d3a1ca2d1c8c5f6f34962829eebffaec0295656fdf7f917555
 ";

@@ -1,8 +1,9 @@
 //! The program: it runs the command of its words over real files and standard output.
 #![tactic(auto)]
 
-use rsml::{Status, run};
+use rsml::{Status, memory_lines, run};
 use rsml_io::{OsFiles, OsSink};
+use std::io::Write;
 use std::process::ExitCode;
 use std::rt::Env;
 use std::{env, io};
@@ -16,14 +17,27 @@ fn words_of<R: Env + AllocGlobal>(rt: &R) -> io::Result<Vec<String>> {
     Ok(words)
 }
 
+/// Tells on standard error for what memory was refused, where that is known. What cannot be written there is lost.
+fn tell_memory(rt: &HostRuntime, words: &[String]) {
+    if let Ok(lines) = memory_lines(rt.alloc(), words, &mut OsFiles::new(rt)) {
+        let _ = rt.stderr().write_all(lines.as_slice());
+    }
+}
+
+/// Runs the command of the words.
+fn status_of(rt: &HostRuntime, words: &[String]) -> Status {
+    let mut files = OsFiles::new(rt);
+    let mut sink = OsSink::new(io::writer(rt));
+    run(rt.alloc(), words, &mut files, &mut sink)
+}
+
 fn main(rt: HostRuntime) -> ExitCode {
-    let status = match words_of(&rt) {
-        Ok(words) => {
-            let mut files = OsFiles::new(&rt);
-            let mut sink = OsSink::new(io::writer(&rt));
-            run(rt.alloc(), words.as_slice(), &mut files, &mut sink)
-        }
-        Err(_) => Status::NoMemory,
+    let Ok(words) = words_of(&rt) else {
+        return ExitCode::from(Status::NoMemory.number());
     };
+    let status = status_of(&rt, words.as_slice());
+    if status == Status::NoMemory {
+        tell_memory(&rt, words.as_slice());
+    }
     ExitCode::from(status.number())
 }

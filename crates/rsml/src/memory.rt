@@ -1,0 +1,33 @@
+ghost use Rattle.std.specs.Prelude.{◌≡◌, IfOk, List, ℕ};
+ghost use Rattle.source_notes.specs.Comments.{AreComments};
+
+use crate::command::{Action, Command, command_in};
+use answering::GREATEST_FILE;
+use explaining::memory_notes;
+use rsml_io::{Files, read_all};
+use rsml_syntax::NoMemory;
+use source_notes::Notes;
+use std::alloc::Global;
+
+/// What a person is told where a command ended with out of memory: of `explain`, comment lines on the first group for which memory is
+/// refused; of another command, or where that is not known, nothing. It takes the time of `check` once more.
+pub fn memory_lines<F: Files>(
+    alloc: Global,
+    words: &[String],
+    files: &mut F,
+) -> Result<Vec<u8>, NoMemory>
+    ensures comments { IfOk result (λ v. AreComments v.items) }
+    ensures contents { (file : List ℕ) → F.contents files.new file ≡ F.contents files.old file }
+{
+    if let Some(
+        Command::Act {
+            action: Action::Explain,
+            file,
+        },
+    ) = command_in(words)
+        && let Ok(text) = read_all(alloc, files, file, GREATEST_FILE)
+    {
+        return memory_notes(alloc, file.as_bytes(), text.as_slice());
+    }
+    Notes::new(alloc, b"", b"").bytes()
+}
