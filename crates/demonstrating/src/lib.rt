@@ -1,4 +1,4 @@
-//! The command `demo`: the summary of the generated specification and events of 1 to 64 units.
+//! The command `demo`: the specification and the events that it generates, that it is certified, and their summary.
 #![tactic(auto)]
 
 mod demonstrating;

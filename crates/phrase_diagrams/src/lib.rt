@@ -1,4 +1,5 @@
-//! Decision diagrams of quantified phrases, AND/OR tables and guards, from those of the phrases that they name.
+//! Decision diagrams of what phrases say of worlds: components, cells, sums and states, and phrases, tables and guards from
+//! those of the phrases that they name.
 #![tactic(auto)]
 
 mod bases;
