@@ -26,9 +26,9 @@ family() { names+=("$1"); sizes_of[$1]="${*:2}"; }
 for name in battery cascade rates feeders votes relief budget pumps supplies flows bands timers windows braking altitudes middles identities; do
   family "$name" 2 4 8 16 30
 done
-family agreement 2 3 4 5 6
+family agreement 2 3 4 5 6 8
 family greatest 2 4 6 8
-family grid 2 3 4
+family grid 2 3 4 8
 [ $# -eq 0 ] || names=("$@")
 
 take_program

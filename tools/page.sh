@@ -1,7 +1,8 @@
 #!/usr/bin/env bash
 # Makes of the program one page that runs in a browser by itself.
 #
-#     tools/page.sh [OUT.html]                         of the program that ./rsml or the gate has built; OUT.html is dist/rsml.html
+#     tools/page.sh [OUT.html]                         of the program that ./rsml or the gate has built; OUT.html is dist/rsml.html,
+#                                                     whose sum then goes into dist/SHA256SUMS
 #     tools/page.sh --trial MODULE PROGRAM OUT.html    of a module (.bc or .ll) and the program for this machine that is built of it,
 #                                                      proved or not: the page says that it is a trial
 #
@@ -15,6 +16,7 @@
 set -euo pipefail
 export LC_ALL=C
 cd "$(dirname "$0")/.."
+. tools/sources.sh
 top=$PWD crate=rsml_main
 folder=$top/crates/$crate
 
@@ -109,3 +111,4 @@ with open(out, "w") as it:
 END
 mkdir -p "$(dirname "$out")"
 python3 web/build.py "$room/rsml.wasm" "$room/facts.json" "$out"
+[ "$out" != dist/rsml.html ] || sum_released

@@ -1,7 +1,8 @@
 #!/usr/bin/env bash
 # The released program, dist/, which ./rsml runs where nothing was built: the very file that the gate links, what it is of, and sums.
 #
-#     tools/release.sh             makes dist/ of the program that a passed gate (.ci/run) left; commit the sources first, and dist/ then
+#     tools/release.sh             makes dist/ of the program that a passed gate (.ci/run) left, without the page, which tools/page.sh builds;
+#                                  commit the sources first, and dist/ then
 #     tools/release.sh check       compares dist/ with the program that was just built, byte for byte, where it is of these sources
 #     tools/release.sh pack DIR    writes DIR/rsml-VERSION-x86_64-linux.tar.gz: the program, pages, examples and licenses
 #     tools/release.sh passed N    notes that a gate that began N seconds ago has passed on the sources here; .ci/run calls it
@@ -77,7 +78,7 @@ make_dist() {
     echo "$sum" >dist/SOURCES
     rt version >dist/TOOLCHAIN
     licenses dist/licenses
-    (cd dist && find -- * -type f | sort | xargs sha256sum >"$room/sums" && mv "$room/sums" SHA256SUMS)
+    sum_released
     echo "release: dist/ is $version, of the sources $sum"
 }
 
@@ -133,7 +134,7 @@ case $#:${1-} in
 2:pack) pack "$2" ;;
 2:passed) note_passed "$2" ;;
 *)
-    sed -n '2,9s/^# \{0,1\}//p' "$0"
+    sed -n '2,10s/^# \{0,1\}//p' "$0"
     exit 2
     ;;
 esac

@@ -33,6 +33,11 @@ sum_of_sources() {
     } | sha256sum | cut -d ' ' -f 1
 }
 
+# Writes dist/SHA256SUMS: the sums of all other files there.
+sum_released() {
+    sums=$(cd dist && find -- * -type f ! -name SHA256SUMS | LC_ALL=C sort | xargs sha256sum) && printf '%s\n' "$sums" >dist/SHA256SUMS
+}
+
 # Whether the files of dist/ are those that its list of sums names, the program among them.
 released_is_whole() {
     (cd dist && grep -q '^[0-9a-f]*  rsml-x86_64-linux$' SHA256SUMS && sha256sum -c SHA256SUMS) >/dev/null 2>&1
