@@ -1,8 +1,9 @@
 ghost use Rattle.std.specs.Prelude.{◌≡◌, IfOk, flat_map};
 ghost use Rattle.state_arrays.specs.Made.{AreArrays, inputs_of, previous_of};
 
-use crate::declared::{inputs, previous_inputs};
+use crate::declared::instances_of;
 use crate::instances::Instances;
+use crate::kind::Kind;
 use rsml_names::{Globals, NameList};
 use rsml_syntax::{Decl, NoMemory};
 use std::alloc::Global;
@@ -37,8 +38,8 @@ impl<'a> InputNames<'a> {
         ensures previous { IfOk result (λ n.
             n.previous ≡ flat_map (previous_of after_previous.now globals.now) decls.now) }
     {
-        let inputs = inputs(alloc, globals, decls)?;
-        let previous = previous_inputs(alloc, globals, after_previous, decls)?;
+        let inputs = instances_of(alloc, globals, Kind::Input, decls)?;
+        let previous = instances_of(alloc, globals, Kind::Previous(after_previous), decls)?;
         Ok(InputNames { inputs, previous })
     }
 }

@@ -2,8 +2,9 @@ ghost use Rattle.std.specs.Prelude.{◌≡◌, IfOk, flat_map};
 ghost use Rattle.rsml_meaning.specs.Interfaces.{sends_of};
 ghost use Rattle.state_arrays.specs.Made.{AreArrays, definitions_made, receives_made};
 
-use crate::declared::{definitions, receives, sends};
+use crate::declared::instances_of;
 use crate::instances::Instances;
+use crate::kind::Kind;
 use rsml_names::Globals;
 use rsml_syntax::{Decl, NoMemory};
 use std::alloc::Global;
@@ -41,9 +42,9 @@ impl<'a> InterfaceNames<'a> {
             n.receives ≡ flat_map (receives_made globals.now) decls.now) }
         ensures sends { IfOk result (λ n. n.sends ≡ flat_map (sends_of globals.now) decls.now) }
     {
-        let definitions = definitions(alloc, globals, decls)?;
-        let receives = receives(alloc, globals, decls)?;
-        let sends = sends(alloc, globals, decls)?;
+        let definitions = instances_of(alloc, globals, Kind::Definition, decls)?;
+        let receives = instances_of(alloc, globals, Kind::Receive, decls)?;
+        let sends = instances_of(alloc, globals, Kind::Send, decls)?;
         Ok(InterfaceNames {
             definitions,
             receives,

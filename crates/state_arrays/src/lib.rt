@@ -9,6 +9,7 @@ mod index_range;
 mod input_names;
 mod instances;
 mod interface_names;
+mod kind;
 mod named;
 mod names;
 mod paths;

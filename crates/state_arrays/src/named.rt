@@ -4,10 +4,11 @@ ghost use Rattle.rsml_meaning.specs.Interfaces.{sends_of};
 ghost use Rattle.rsml_names.specs.PreviousNames as after;
 ghost use Rattle.state_arrays.specs.Made.{AreArrays, inputs_of, previous_of, definitions_made, receives_made};
 
-use crate::declared::events;
+use crate::declared::instances_of;
 use crate::input_names::InputNames;
 use crate::instances::Instances;
 use crate::interface_names::InterfaceNames;
+use crate::kind::Kind;
 use rsml_names::{Globals, previous_names};
 use rsml_syntax::{NoMemory, Spec};
 use std::alloc::Global;
@@ -63,7 +64,7 @@ pub fn all_named<'a>(
     ensures sends { IfOk result (λ n. n.interfaces.sends
         ≡ flat_map (sends_of globals.now) spec.now.decls) }
 {
-    let events = events(alloc, globals, spec.decls.as_slice())?;
+    let events = instances_of(alloc, globals, Kind::Event, spec.decls.as_slice())?;
     let cells = cells(alloc, globals, spec)?;
     let interfaces = InterfaceNames::new(alloc, globals, spec.decls.as_slice())?;
     Ok(Named {
