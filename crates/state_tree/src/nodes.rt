@@ -11,7 +11,7 @@ mod node;
 mod step;
 
 use node::{Node, component_after, count_with};
-use rsml_names::Globals;
+use rsml_names::{Globals, children_of};
 use rsml_syntax::{Amount, Body, Checked, NoMemory, StateDecl};
 use std::alloc::Global;
 use std::marker::Model;
@@ -74,15 +74,7 @@ impl<'a> Nodes<'a> {
     {
         let number = self.len();
         let nodes = self.put(alloc, path, parent, body)?;
-        match body {
-            Body::Basic => Ok(nodes),
-            Body::One { children, .. } => {
-                nodes.with_children(alloc, globals, path, number, children.as_slice())
-            }
-            Body::All { children } => {
-                nodes.with_children(alloc, globals, path, number, children.as_slice())
-            }
-        }
+        nodes.with_children(alloc, globals, path, number, children_of(body))
     }
 
     /// These, and then the children of a state with what is inside them.

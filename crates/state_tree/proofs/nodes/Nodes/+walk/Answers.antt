@@ -1,13 +1,11 @@
-use Rattle.std.proofs.Common.{◌≡◌, ℕ, ◌+◌, List, [], ◌∷◌, take, flat_map, length, ap, sym, ◌∙◌, arith, length-append}
-use Rattle.rsml_syntax.specs.declared.syntax.Body.{Body}
+use Rattle.std.proofs.Common.{◌≡◌, ℕ, suc, ◌+◌, List, [], ◌∷◌, take, flat_map, length, ap, sym, ◌∙◌, arith, length-append}
 use Rattle.rsml_syntax.specs.declared.syntax.StateDecl.{StateDecl}
 use Rattle.rsml_syntax.specs.declared.world.Step.{Step}
 use Rattle.rsml_syntax.specs.rules.Globals.{up_to}
-use Rattle.rsml_meaning.proofs.Children.{states_are_of_children}
 use Rattle.rsml_meaning.specs.Words.{at, child_path}
 use Rattle.rsml_meaning.specs.Instances.{child_states, new_state, inside, subtree}
 use Rattle.state_tree.specs.nodes.Numbers.{Fit}
-use Rattle.state_tree.proofs.Depths.{depth_of_one, depth_of_all, depth_of_item}
+use Rattle.state_tree.proofs.Depths.{deepest, depth_of_children, depth_of_item, inside_is}
 use Rattle.state_tree.proofs.NodeFitting.{rest_fits, after_first, turn_fits, index_fits, index_more, last_index}
 use Rattle.state_tree.proofs.Numbering.{put_at, at_more, parent_at}
 use Rattle.state_tree.proofs.nodes.Nodes.+walk.Goals as goal
@@ -15,48 +13,25 @@ use Rattle.state_tree.proofs.nodes.Nodes.+walk.Goals as goal
 pub with-with_children-requires : goal.with-with_children-requires
 with-with_children-requires t c =
     let g = c.args.globals.now in
+    let b = c.args.body.now in
     let p = c.args.path.now in
-    let is : inside g c.args.body.now p ≡ flat_map (child_states g p) c.as_slice.result.now =
-    ap (λ (b : Body). inside g b p) c.in-One.is ∙ (states_are_of_children g p c.in-One.first c.in-One.children c.in-One.buses c.in-One.transitions).inside_one
-    ∙ ap (λ (cs : List StateDecl). flat_map (child_states g p) cs) (sym c.as_slice.ensures) in (
-      let d = depth_of_one c.args.body.now c.in-One.first c.in-One.children c.as_slice.result.now c.in-One.buses c.in-One.transitions c.in-One.is c.as_slice.ensures in omega (arith, d, c.decreases),
+    let is : inside g b p ≡ flat_map (child_states g p) c.children_of.result.now =
+    inside_is g p b ∙ ap (λ (cs : List StateDecl). flat_map (child_states g p) cs) (sym c.children_of.ensures) in (
+      let d = ap (λ (cs : List StateDecl). suc (deepest cs)) c.children_of.ensures ∙ depth_of_children b in omega (arith, d, c.decreases),
       (
-        put_at c.args.self c.in_ok-nodes.nodes (new_state c.args.body.now p) c.len-number.result c.in_ok-nodes.ensures c.len-number.ensures (omega (arith, c.requires.some)),
-        rest_fits c.args.self c.in_ok-nodes.nodes (new_state c.args.body.now p) (inside g c.args.body.now p) (flat_map (child_states g p) c.as_slice.result.now) c.in_ok-nodes.ensures is c.requires.room,
+        put_at c.args.self c.in_ok-nodes.nodes (new_state b p) c.len-number.result c.in_ok-nodes.ensures c.len-number.ensures (omega (arith, c.requires.some)),
+        rest_fits c.args.self c.in_ok-nodes.nodes (new_state b p) (inside g b p) (flat_map (child_states g p) c.children_of.result.now) c.in_ok-nodes.ensures is c.requires.room,
       ),
     )
 
-pub with-with_children-requires-in-All : goal.with-with_children-requires-in-All
-with-with_children-requires-in-All t c =
+pub with-returns : goal.with-returns
+with-returns t c =
     let g = c.args.globals.now in
+    let b = c.args.body.now in
     let p = c.args.path.now in
-    let is : inside g c.args.body.now p ≡ flat_map (child_states g p) c.as_slice-in-All.result.now =
-    ap (λ (b : Body). inside g b p) c.in-All.is ∙ (states_are_of_children g p [] c.in-All.children [] []).inside_all
-    ∙ ap (λ (cs : List StateDecl). flat_map (child_states g p) cs) (sym c.as_slice-in-All.ensures) in (
-      let d = depth_of_all c.args.body.now c.in-All.children c.as_slice-in-All.result.now c.in-All.is c.as_slice-in-All.ensures in omega (arith, d, c.decreases),
-      (
-        put_at c.args.self c.in_ok-nodes.nodes (new_state c.args.body.now p) c.len-number.result c.in_ok-nodes.ensures c.len-number.ensures (omega (arith, c.requires.some)),
-        rest_fits c.args.self c.in_ok-nodes.nodes (new_state c.args.body.now p) (inside g c.args.body.now p) (flat_map (child_states g p) c.as_slice-in-All.result.now) c.in_ok-nodes.ensures is c.requires.room,
-      ),
-    )
-
-pub with-returns-in-One : goal.with-returns-in-One
-with-returns-in-One t c =
-    let g = c.args.globals.now in
-    let p = c.args.path.now in
-    let is : inside g c.args.body.now p ≡ flat_map (child_states g p) c.as_slice.result.now =
-    ap (λ (b : Body). inside g b p) c.in-One.is ∙ (states_are_of_children g p c.in-One.first c.in-One.children c.in-One.buses c.in-One.transitions).inside_one
-    ∙ ap (λ (cs : List StateDecl). flat_map (child_states g p) cs) (sym c.as_slice.ensures) in
-    after_first c.with_children.result c.args.self c.in_ok-nodes.nodes (new_state c.args.body.now p) (inside g c.args.body.now p) (flat_map (child_states g p) c.as_slice.result.now) c.in_ok-nodes.ensures is c.with_children.ensures
-
-pub with-returns-in-All : goal.with-returns-in-All
-with-returns-in-All t c =
-    let g = c.args.globals.now in
-    let p = c.args.path.now in
-    let is : inside g c.args.body.now p ≡ flat_map (child_states g p) c.as_slice-in-All.result.now =
-    ap (λ (b : Body). inside g b p) c.in-All.is ∙ (states_are_of_children g p [] c.in-All.children [] []).inside_all
-    ∙ ap (λ (cs : List StateDecl). flat_map (child_states g p) cs) (sym c.as_slice-in-All.ensures) in
-    after_first c.with_children-in-All.result c.args.self c.in_ok-nodes.nodes (new_state c.args.body.now p) (inside g c.args.body.now p) (flat_map (child_states g p) c.as_slice-in-All.result.now) c.in_ok-nodes.ensures is c.with_children-in-All.ensures
+    let is : inside g b p ≡ flat_map (child_states g p) c.children_of.result.now =
+    inside_is g p b ∙ ap (λ (cs : List StateDecl). flat_map (child_states g p) cs) (sym c.children_of.ensures) in
+    after_first c.with_children.result c.args.self c.in_ok-nodes.nodes (new_state b p) (inside g b p) (flat_map (child_states g p) c.children_of.result.now) c.in_ok-nodes.ensures is c.with_children.ensures
 
 pub with_array-overflow_cast-index : goal.with_array-overflow_cast-index
 with_array-overflow_cast-index t c =
