@@ -6,10 +6,9 @@ ghost use Rattle.rsml_syntax.specs.grammar.Written as written;
 ghost use Rattle.rsml_names.specs.PreviousNames as after;
 ghost use Rattle.rsml_names.specs.PreviousNames.{gathered};
 
-use crate::{NameList, answered, rows_of, simple_of, transitions_of};
+use crate::{Guarded, NameList, answered, rows_of, simple_of, transitions_of};
 use rsml_syntax::{
-    Answer, Body, Case, Decl, Guard, NoMemory, Operand, Row, SendCase, Simple, Spec, StateDecl,
-    Sum, Transition, Value,
+    Answer, Body, Case, Decl, NoMemory, Operand, Row, SendCase, Simple, Spec, StateDecl, Sum, Value,
 };
 use std::alloc::Global;
 
@@ -57,20 +56,15 @@ fn with_rows<'a>(mut names: NameList<'a>, rows: &'a [Row]) -> Result<NameList<'a
     Ok(names)
 }
 
-fn with_guard<'a>(names: NameList<'a>, guard: &'a Guard) -> Result<NameList<'a>, NoMemory>
-    ensures { IfOk result (λ n. n ≡ gathered names.entry (written.sums_of_guard guard.now)) }
-{
-    with_rows(names, rows_of(guard))
-}
-
-fn with_case_guards<'a>(
+fn with_guards<'a, G: Guarded>(
     mut names: NameList<'a>,
-    cases: &'a [Case],
+    guarded: &'a [G],
 ) -> Result<NameList<'a>, NoMemory>
-    ensures { IfOk result (λ n. n ≡ gathered names.entry (after.case_guards cases.now)) }
+    ensures { IfOk result (λ n.
+        n ≡ gathered names.entry (flat_map (λ x. written.sums_of_guard (G.guard_of x)) guarded.now)) }
 {
-    for case in cases {
-        names = with_guard(names, &case.guard)?;
+    for each in guarded {
+        names = with_rows(names, rows_of(each.guard()))?;
     }
     Ok(names)
 }
@@ -83,18 +77,6 @@ fn with_case_values<'a>(
 {
     for case in cases {
         names = with_sum(names, &case.value)?;
-    }
-    Ok(names)
-}
-
-fn with_send_guards<'a>(
-    mut names: NameList<'a>,
-    cases: &'a [SendCase],
-) -> Result<NameList<'a>, NoMemory>
-    ensures { IfOk result (λ n. n ≡ gathered names.entry (after.send_guards cases.now)) }
-{
-    for case in cases {
-        names = with_guard(names, &case.guard)?;
     }
     Ok(names)
 }
@@ -133,7 +115,7 @@ fn with_cases<'a>(names: NameList<'a>, cases: &'a [Case]) -> Result<NameList<'a>
     ensures { IfOk result (λ n.
         n ≡ gathered names.entry (after.case_guards cases.now ++ after.case_values cases.now)) }
 {
-    let names = with_case_guards(names, cases)?;
+    let names = with_guards(names, cases)?;
     with_case_values(names, cases)
 }
 
@@ -141,7 +123,7 @@ fn with_send_cases<'a>(names: NameList<'a>, cases: &'a [SendCase]) -> Result<Nam
     ensures { IfOk result (λ n.
         n ≡ gathered names.entry (after.send_guards cases.now ++ after.send_answers cases.now)) }
 {
-    let names = with_send_guards(names, cases)?;
+    let names = with_guards(names, cases)?;
     with_send_answers(names, cases)
 }
 
@@ -170,19 +152,6 @@ fn with_declarations<'a>(
     Ok(names)
 }
 
-fn with_transitions<'a>(
-    mut names: NameList<'a>,
-    transitions: &'a [Transition],
-) -> Result<NameList<'a>, NoMemory>
-    ensures { IfOk result (λ n.
-        n ≡ gathered names.entry (after.sums_of_transitions transitions.now)) }
-{
-    for transition in transitions {
-        names = with_guard(names, &transition.guard)?;
-    }
-    Ok(names)
-}
-
 /// These names, and those that stand after `previous` inside a state.
 #[cycle(walk)]
 fn with_inside<'a>(names: NameList<'a>, body: &'a Body) -> Result<NameList<'a>, NoMemory>
@@ -205,7 +174,7 @@ fn with_children<'a>(
 {
     for child in children {
         let within = with_inside(names, &child.body)?;
-        names = with_transitions(within, transitions_of(&child.body))?;
+        names = with_guards(within, transitions_of(&child.body))?;
     }
     Ok(names)
 }
@@ -216,5 +185,5 @@ pub fn previous_names(alloc: Global, spec: &Spec) -> Result<NameList<'_>, NoMemo
 {
     let names = with_declarations(NameList::new(alloc), spec.decls.as_slice())?;
     let names = with_inside(names, &spec.body)?;
-    with_transitions(names, transitions_of(&spec.body))
+    with_guards(names, transitions_of(&spec.body))
 }
