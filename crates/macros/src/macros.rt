@@ -272,8 +272,8 @@ impl<'a> Macros<'a> {
         self.number_truth(tree, world, memo.truths(), number, phrase)
     }
 
-    /// Whether the relation holds between two sums.
-    fn compared(
+    /// Whether the relation holds between two sums in a world.
+    pub fn compared(
         &self,
         world: &World,
         left: &GroundSum,
@@ -286,8 +286,16 @@ impl<'a> Macros<'a> {
         ensures { result ≡ relations.compare relation
             (spec.sum_number world.now.cells left.now) (spec.sum_number world.now.cells right.now) }
     {
-        let cells = self.cells(world);
-        compare(relation, sum_number(cells, left), sum_number(cells, right))
+        compare(relation, self.number(world, left), self.number(world, right))
+    }
+
+    /// The number of a sum in a world.
+    pub fn number(&self, world: &World, sum: &GroundSum) -> i64
+        requires world { IsWorld self.now.spec world.now }
+        requires fits { SumFits (length (cells self.now.spec)) sum.now }
+        ensures { result ≡ spec.sum_number world.now.cells sum.now }
+    {
+        sum_number(self.cells(world), sum)
     }
 
     /// The truth of a macro's table. A function has none.
