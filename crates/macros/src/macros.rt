@@ -286,7 +286,11 @@ impl<'a> Macros<'a> {
         ensures { result ≡ relations.compare relation
             (spec.sum_number world.now.cells left.now) (spec.sum_number world.now.cells right.now) }
     {
-        compare(relation, self.number(world, left), self.number(world, right))
+        compare(
+            relation,
+            self.number(world, left),
+            self.number(world, right),
+        )
     }
 
     /// The number of a sum in a world.
