@@ -1,5 +1,5 @@
 -- The first world, what an event does to the cells, and runs of event files.
-use Rattle.std.specs.Prelude.{◌≡◌, true, false, List, [], ◌∷◌, map, Option, Some, None, if◌then◌else◌, ℤ, zip, unwrap_or, ⊤}
+use Rattle.std.specs.Prelude.{◌≡◌, true, false, List, [], ◌∷◌, map, Option, Some, None, if◌then◌else◌, ℤ, zip, flat_map, unwrap_or, ⊤}
 use Rattle.rsml_syntax.specs.declared.syntax.Spec.{Spec}
 use Rattle.rsml_syntax.specs.declared.world.World.{World}
 use Rattle.rsml_meaning.specs.Words.{Instance, same_instance, has, first_some}
@@ -54,6 +54,10 @@ IsRunFrom s w _ _ = ⊥
 -- a run of lines of an event file, from the first world
 abbrev pub IsRun : Spec → List Line → List Reaction → Type 0
 IsRun s lines rs = IsRunFrom s (first_world s) (messages s lines) rs
+
+-- the rounds of the steps of all events
+abbrev pub rounds_in : List Reaction → List Round
+rounds_in rs = flat_map (λ r. r.rounds) rs
 
 -- lines of an event file have exactly one run: one list of steps, with all their worlds
 pub record HaveOneRun (s : Spec) (lines : List Line) : Type 0 where

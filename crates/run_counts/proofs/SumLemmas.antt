@@ -4,9 +4,9 @@ use Rattle.std.proofs.lemmas.Grind.{flat_map-append}
 use Rattle.std.proofs.lemmas.List.Elements.{filter-append}
 use Rattle.rsml_meaning.specs.Transitions.{TransitionInstance}
 use Rattle.rsml_meaning.specs.Steps.{Round}
-use Rattle.rsml_meaning.specs.Runs.{Reaction}
+use Rattle.rsml_meaning.specs.Runs.{Reaction, rounds_in}
 use Rattle.run_counts.specs.declared.counts.Counts.{Counts}
-use Rattle.run_counts.specs.Counts.{rounds_in, taken_in, takes_in, is_move, counts_of}
+use Rattle.run_counts.specs.Counts.{taken_in, takes_in, is_move, counts_of}
 use Rattle.run_counts.specs.Sums.{with_rounds, with_reactions}
 
 -- counts of their parts

@@ -5,12 +5,8 @@ use Rattle.rsml_meaning.specs.EventLines.{Bytes}
 use Rattle.rsml_meaning.specs.EventFiles.{lines_of}
 use Rattle.rsml_meaning.specs.Transitions.{TransitionInstance}
 use Rattle.rsml_meaning.specs.Steps.{Round}
-use Rattle.rsml_meaning.specs.Runs.{Reaction, IsRun}
+use Rattle.rsml_meaning.specs.Runs.{Reaction, IsRun, rounds_in}
 use Rattle.run_counts.specs.declared.counts.Counts.{Counts}
-
--- the rounds of the steps of all events
-abbrev pub rounds_in : List Reaction → List Round
-rounds_in rs = flat_map (λ r. r.rounds) rs
 
 -- the transitions that rounds took
 abbrev pub taken_in : List Round → List TransitionInstance

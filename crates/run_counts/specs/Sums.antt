@@ -1,9 +1,9 @@
 -- Counts of more rounds, and of more reactions.
 use Rattle.std.specs.Prelude.{◌+◌, List, length, filter}
 use Rattle.rsml_meaning.specs.Steps.{Round}
-use Rattle.rsml_meaning.specs.Runs.{Reaction}
+use Rattle.rsml_meaning.specs.Runs.{Reaction, rounds_in}
 use Rattle.run_counts.specs.declared.counts.Counts.{Counts}
-use Rattle.run_counts.specs.Counts.{rounds_in, taken_in, takes_in, is_move}
+use Rattle.run_counts.specs.Counts.{taken_in, takes_in, is_move}
 
 -- the counts after these rounds
 abbrev pub with_rounds : Counts → List Round → Counts
