@@ -14,7 +14,6 @@ mod rising;
 mod rows;
 mod scratch;
 mod steps;
-mod sums;
 mod values;
 
 pub use events::Events;

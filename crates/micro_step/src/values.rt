@@ -6,7 +6,6 @@ ghost use Rattle.ground_members.specs.declared.send_cases.GroundSendCase.{Ground
 ghost use Rattle.micro_step.specs.Numbers as spec;
 ghost use Rattle.micro_step.specs.Numbers.{AreOfCase, HaveRoom, ValueFits, case_numbers, values_of};
 
-use crate::sums::sum_number;
 use elaborate::Machine;
 use ground_members::{GroundAnswer, GroundValue};
 use macros::Memo;
@@ -20,11 +19,10 @@ fn value_number(machine: &Machine<'_>, world: &World, memo: &mut Memo, value: &G
     ensures number { result ≡ spec.value_number machine.now world.now value.now }
     ensures knows { Knows machine.now.base world.now memo.new }
 {
-    machine.law();
+    let macros = machine.macros();
     match value {
-        GroundValue::Sum(sum) => sum_number(world.cells.as_slice(), sum),
+        GroundValue::Sum(sum) => macros.number(world, sum),
         GroundValue::Function(function) => {
-            let macros = machine.macros();
             macros.ask_value(machine.tree(), world, memo, *function)
         }
     }

@@ -1,24 +1,19 @@
-use Rattle.std.proofs.Common.{◌<◌, ℤ, List, length, sym, ap, ◌∙◌, subst, rules, w64, FitsSigned}
+use Rattle.std.proofs.Common.{◌<◌, length, sym, ap, ◌∙◌, subst, rules, w64, FitsSigned}
 use Rattle.std.proofs.lemmas.Int.{to_z-of_z}
-use Rattle.std.specs.List.{All}
+use Rattle.rsml_meaning.specs.Cells.{cells}
 use Rattle.rsml_meaning.specs.Worlds.{IsWorld}
-use Rattle.rsml_ground.specs.Rests.{IsSmall, SumFits}
+use Rattle.rsml_ground.specs.Rests.{SumFits}
 use Rattle.rsml_ground.specs.Truths.{Grounded, value_in}
-use Rattle.rsml_ground.specs.Truths as truths
 use Rattle.macros.specs.Known.{Knows}
-use Rattle.macros.proofs.SmallCells.{small_cells, world_cells}
 use Rattle.micro_step.specs.Numbers.{value_number, ValueFits}
 use Rattle.micro_step.proofs.values.value_number.Goals as goal
 
-pub sum_number-requires-clause-fits : goal.sum_number-requires-clause-fits
-sum_number-requires-clause-fits c =
-    let s = c.args.machine.now.base.spec in
-    let many = ap length c.as_slice.ensures ∙ world_cells s c.args.world.now c.requires.world in
-    subst (λ n. SumFits n c.in-Sum.sum) (sym many) (subst (ValueFits c.args.machine.now) c.in-Sum.is c.requires.value)
+pub number-requires-clause-world : goal.number-requires-clause-world
+number-requires-clause-world c = subst (λ (g : Grounded). IsWorld g.spec c.args.world.now) (sym c.macros-macros.ensures) c.requires.world
 
-pub sum_number-requires-clause-small : goal.sum_number-requires-clause-small
-sum_number-requires-clause-small c =
-    subst (λ (xs : List ℤ). All IsSmall xs) (sym c.as_slice.ensures) (small_cells c.args.machine.now.base c.law.ensures.grounded c.args.world.now c.requires.world)
+pub number-requires-clause-fits : goal.number-requires-clause-fits
+number-requires-clause-fits c =
+    subst (λ (g : Grounded). SumFits (length (cells g.spec)) c.in-Sum.sum) (sym c.macros-macros.ensures) (subst (ValueFits c.args.machine.now) c.in-Sum.is c.requires.value)
 
 pub ask_value-requires-clause-tree : goal.ask_value-requires-clause-tree
 ask_value-requires-clause-tree c = c.tree.ensures ∙ ap (λ (g : Grounded). g.spec) (sym c.macros-macros.ensures)
@@ -36,9 +31,8 @@ ask_value-requires-clause-function c =
 pub returns-in-Sum-clause-number : goal.returns-in-Sum-clause-number
 returns-in-Sum-clause-number c =
     let m = c.args.machine.now in
-    let small : FitsSigned w64 c.sum_number.result = search rules in
-    to_z-of_z w64 c.sum_number.result small ∙ c.sum_number.ensures ∙ ap (λ (xs : List ℤ). truths.sum_number xs c.in-Sum.sum) c.as_slice.ensures
-    ∙ ap (value_number m c.args.world.now) (sym c.in-Sum.is)
+    let small : FitsSigned w64 c.number.result = search rules in
+    to_z-of_z w64 c.number.result small ∙ c.number.ensures ∙ ap (value_number m c.args.world.now) (sym c.in-Sum.is)
 
 pub returns-in-Function-clause-number : goal.returns-in-Function-clause-number
 returns-in-Function-clause-number c =
