@@ -21,14 +21,14 @@ impl Drop for Spec {
 }
 
 /// A whole number as it is written: `-0` and `0` are two texts of one number.
-#[derive(Debug, Drop)]
+#[derive(Debug, Drop, PartialEq, Eq)]
 pub struct Signed {
     pub minus: bool,
     pub digits: u32,
 }
 
 /// A size, or the bound of a quantifier.
-#[derive(Debug)]
+#[derive(Debug, PartialEq, Eq)]
 pub enum Amount {
     Number(u32),
     /// A constant.
@@ -78,7 +78,7 @@ impl Drop for Mention {
 }
 
 /// The value that an input has before the first event.
-#[derive(Debug)]
+#[derive(Debug, PartialEq, Eq)]
 pub enum Initial {
     Number(Signed),
     /// A constant, or a value of an enumeration.
@@ -219,7 +219,7 @@ impl Drop for SendCase {
 }
 
 /// What an output interface does in a case.
-#[derive(Debug)]
+#[derive(Debug, PartialEq, Eq)]
 pub enum Answer {
     /// Nothing is sent.
     Quiet,
@@ -236,7 +236,7 @@ impl Drop for Answer {
     }
 }
 
-#[derive(Debug)]
+#[derive(Debug, PartialEq, Eq)]
 pub enum Value {
     Sum(Sum),
     Function(Mention),
@@ -279,7 +279,7 @@ pub enum Body {
 }
 
 /// A group of children from which transitions lead together.
-#[derive(Debug)]
+#[derive(Debug, PartialEq, Eq)]
 pub struct Bus {
     pub name: Text,
     pub members: List<Text>,
@@ -439,18 +439,18 @@ pub enum Relation {
     GreaterEqual,
 }
 
-#[derive(Debug, Drop)]
+#[derive(Debug, Drop, PartialEq, Eq)]
 pub struct Sum {
     pub terms: List<Term>,
 }
 
-#[derive(Debug, Drop)]
+#[derive(Debug, Drop, PartialEq, Eq)]
 pub struct Term {
     pub minus: bool,
     pub operand: Operand,
 }
 
-#[derive(Debug)]
+#[derive(Debug, PartialEq, Eq)]
 pub enum Operand {
     Number(u32),
     /// An input, a constant, or a value of an enumeration.
