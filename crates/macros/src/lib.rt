@@ -1,5 +1,5 @@
 //! What the phrases, guards and functions of a specification say in a world: all of them at once, or those that are
-//! asked.
+//! asked, and how guards are prepared to be asked in many worlds.
 #![tactic(auto)]
 
 mod activity;

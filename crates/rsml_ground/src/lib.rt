@@ -1,5 +1,5 @@
 //! Ground phrases: the tables, cases and sums of a specification over numbers of phrases and cells, what they
-//! say in a world, and when they stand for those of the text.
+//! say in a world, when they stand for those of the text, and the children with which a state is active.
 #![tactic(auto)]
 
 mod choices;

@@ -1,5 +1,5 @@
-//! Names and what they stand for: global names, the variables of quantifiers, and the children of
-//! states.
+//! Names and what they stand for: global names, the variables of quantifiers, the children of
+//! states, and the names after `previous`.
 #![tactic(auto)]
 
 mod bodies;

@@ -1,4 +1,5 @@
-//! Writing a text piece by piece: after the first refusal nothing more is written.
+//! Writing a text piece by piece, into memory or to a sink behind a buffer: after the first refusal nothing more is
+//! written.
 #![tactic(auto)]
 
 mod buffer;
