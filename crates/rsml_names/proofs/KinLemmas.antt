@@ -1,14 +1,13 @@
 -- Families that stand among more, and the place of a child.
-use Rattle.std.proofs.Common.{◌≡◌, ℕ, zero, suc, ◌+◌, Bool, true, false, cond, List, [], ◌∷◌, ◌++◌, length, map, Option, Some, None, refl, sym, ap, ◌∙◌, subst, slice_get, ◌⊎◌, inl, inr, take, get_or, ◌<◌, append_assoc, Result, Ok, Err, IfOk}
+use Rattle.std.proofs.Common.{◌≡◌, ℕ, zero, suc, ◌+◌, List, [], ◌∷◌, ◌++◌, length, map, Option, Some, None, refl, sym, ap, ◌∙◌, subst, slice_get, ◌⊎◌, inl, inr, take, get_or, ◌<◌, append_assoc, Result, Ok, Err, IfOk}
 use Rattle.std.proofs.lemmas.List.{take_more, map_push}
 use Rattle.std.proofs.lemmas.Option.{same_Some}
 use Rattle.std.specs.Option.{option_map, option_and_then}
-use Rattle.std.specs.List.{position_from, find}
 use Rattle.rsml_syntax.specs.declared.syntax.StateDecl.{StateDecl}
 use Rattle.rsml_syntax.specs.text.Names.{Name, same, place_of}
 use Rattle.rsml_syntax.specs.rules.Uses.{child_named}
 use Rattle.rsml_syntax.specs.grammar.Parts.{children_of}
-use Rattle.rsml_names.proofs.NamesLemmas.{placed_later}
+use Rattle.rsml_names.proofs.NamesLemmas.{found}
 use Rattle.rsml_names.specs.Kin.{Family, Holds, AreBelow, Fits, AreFamilies, Grown, child_at, child_of, IsChild, HoldsSome}
 
 -- a family keeps its number
@@ -91,23 +90,6 @@ put_holds (Ok p) first fs f grown h = (
 
 -- THE CHILD OF A NAME
 
--- the first child that passes stands at the first place of a name that passes
-found : (t : Name → Bool) (cs : List StateDecl) → find (λ (c : StateDecl). t c.name) cs ≡ option_and_then (slice_get cs) (position_from t 0 (map (λ (c : StateDecl). c.name) cs))
-found t [] = refl
-found t (c ∷ cs) = by (t c.name) (found t cs)
-  where
-    names : List Name
-    names = map (λ (d : StateDecl). d.name) cs
-
-    later : (o : Option ℕ) → option_and_then (slice_get cs) o ≡ option_and_then (slice_get (c ∷ cs)) (option_map suc o)
-    later None = refl
-    later (Some p) = refl
-
-    by : (b : Bool) → find (λ (d : StateDecl). t d.name) cs ≡ option_and_then (slice_get cs) (position_from t 0 names) →
-        cond b (Some c) (find (λ (d : StateDecl). t d.name) cs) ≡ option_and_then (slice_get (c ∷ cs)) (cond b (Some 0) (position_from t (0 + 1) names))
-    by true h = refl
-    by false h = h ∙ later (position_from t 0 names) ∙ ap (λ (o : Option ℕ). option_and_then (slice_get (c ∷ cs)) o) (sym (placed_later t 0 names))
-
 -- the child at a place, with its own family
 at_place : (fs : List Family) (cs : List StateDecl) (ns : List ℕ) (names : List Name) (p : ℕ) → AreBelow fs cs ns → IsChild fs (slice_get cs p) (child_at (record { children = cs; names = names; below = ns }) p)
 at_place fs [] [] names p h = tt
@@ -119,7 +101,7 @@ at_place fs (c ∷ cs) [] names p h = absurd h
 -- the child of a name, in a family that fits
 pub is_child : (fs : List Family) (f : Family) (name : Name) → Fits fs f → IsChild fs (child_named name f.children) (child_of f name)
 is_child fs f name h =
-    subst (λ (o : Option StateDecl). IsChild fs o (child_of f name)) (sym (found (same name) f.children))
+    subst (λ (o : Option StateDecl). IsChild fs o (child_of f name)) (sym (found (λ (c : StateDecl). c.name) (same name) f.children))
     (subst (λ (ns : List Name). IsChild fs (option_and_then (slice_get f.children) (place_of name ns)) (child_of f name)) h.names
     (by (place_of name f.names)))
   where

@@ -1,6 +1,6 @@
 -- The places of names: what a name that is put last changes.
-use Rattle.std.proofs.Common.{◌≡◌, ℕ, ◌+◌, Bool, true, false, cond, List, [], ◌∷◌, ◌++◌, length, Option, Some, None, is_some, refl, sym, ap, ◌∙◌, arith, true≢false, map, Bor, suc, add-one}
-use Rattle.std.specs.Option.{option_map}
+use Rattle.std.proofs.Common.{◌≡◌, ℕ, ◌+◌, Bool, true, false, cond, List, [], ◌∷◌, ◌++◌, length, Option, Some, None, is_some, refl, sym, ap, ◌∙◌, arith, true≢false, map, Bor, suc, add-one, slice_get, find}
+use Rattle.std.specs.Option.{option_map, option_and_then}
 use Rattle.rsml_syntax.specs.text.Names.{Name, same, place_of, is_in}
 use Rattle.std.specs.List.{position_from}
 use Rattle.std.specs.Cmp.Lexicographic.{nat_list_eq_equiv, same_text}
@@ -72,3 +72,24 @@ placed_later t i (n ∷ ns) = by (t n) (placed_later t (i + 1) ns)
     by : (b : Bool) → position_from t (i + 1 + 1) ns ≡ option_map suc (position_from t (i + 1) ns) → cond b (Some (i + 1)) (position_from t (i + 1 + 1) ns) ≡ option_map suc (cond b (Some i) (position_from t (i + 1) ns))
     by true h = ap (λ (n : ℕ). Some n) (add-one i)
     by false h = h
+
+-- the first item whose name passes stands at the first place of a name that passes
+pub found : {A : Type 0} (f : A → Name) (t : Name → Bool) (xs : List A) → find (λ x. t (f x)) xs ≡ option_and_then (slice_get xs) (position_from t 0 (map f xs))
+found f t [] = refl
+found f t (x ∷ xs) = by (t (f x)) (found f t xs)
+  where
+    later : (o : Option ℕ) → option_and_then (slice_get xs) o ≡ option_and_then (slice_get (x ∷ xs)) (option_map suc o)
+    later None = refl
+    later (Some p) = refl
+
+    by : (b : Bool) → find (λ y. t (f y)) xs ≡ option_and_then (slice_get xs) (position_from t 0 (map f xs)) →
+        cond b (Some x) (find (λ y. t (f y)) xs) ≡ option_and_then (slice_get (x ∷ xs)) (cond b (Some 0) (position_from t (0 + 1) (map f xs)))
+    by true h = refl
+    by false h = h ∙ later (position_from t 0 (map f xs)) ∙ ap (λ (o : Option ℕ). option_and_then (slice_get (x ∷ xs)) o) (sym (placed_later t 0 (map f xs)))
+
+-- what stands at the place of a name is the first item of that name
+pub named_first : {A : Type 0} (f : A → Name) (name : Name) (names : List Name) (xs : List A) (place : Option ℕ) → names ≡ map f xs → place_of name names ≡ place →
+    option_and_then (slice_get xs) place ≡ find (λ x. same name (f x)) xs
+named_first f name names xs place e h =
+    ap (λ (o : Option ℕ). option_and_then (slice_get xs) o) (sym h ∙ ap (λ (ns : List Name). place_of name ns) e)
+    ∙ sym (found f (same name) xs)

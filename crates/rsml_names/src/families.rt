@@ -120,8 +120,9 @@ impl<'a> Families<'a> {
     {
         match body {
             Body::Basic => self.with_children(alloc, &[]),
-            Body::One { children, .. } => self.with_children(alloc, children.as_slice()),
-            Body::All { children } => self.with_children(alloc, children.as_slice()),
+            Body::One { children, .. } | Body::All { children } => {
+                self.with_children(alloc, children.as_slice())
+            }
         }
     }
 

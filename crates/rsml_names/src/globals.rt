@@ -3,6 +3,7 @@ ghost use Rattle.std.specs.Option.{option_copied, option_map};
 ghost use Rattle.rsml_syntax.specs.text.Names.{place_of};
 ghost use Rattle.rsml_syntax.specs.rules.Globals as spec;
 ghost use Rattle.rsml_syntax.specs.rules.Scopes as scopes;
+ghost use Rattle.rsml_syntax.specs.rules.Uses as uses;
 
 use crate::declarations::{name_of, number_of, size_of, values_of};
 use crate::name_list::NameList;
@@ -35,6 +36,13 @@ impl<'a> Known<'a> {
             Decl::Constant { value, .. } => Some(number_of(value)),
             _ => None,
         }
+    }
+
+    /// Whether it is an input.
+    pub fn is_input(&self) -> bool
+        ensures { result ≡ uses.is_input self.now }
+    {
+        matches!(self.decl, Decl::Input { .. })
     }
 
     /// The size that the name was declared with.

@@ -3,6 +3,7 @@
 #![tactic(auto)]
 
 mod bodies;
+mod buses;
 mod declarations;
 mod families;
 mod globals;
@@ -14,6 +15,7 @@ mod scope;
 mod variables;
 
 pub use bodies::{buses_of, children_of, default_of, is_basic, transitions_of};
+pub use buses::Buses;
 pub use declarations::{answered, name_of, number_of, rows_of, simple_of, size_of, values_of};
 pub use families::{Child, Families};
 pub use globals::{Globals, Known};

@@ -7,8 +7,9 @@ ghost use Rattle.rsml_names.specs.Bound as names;
 
 use crate::declarations::rows_of;
 use crate::globals::{Globals, Known};
+use crate::guarded::Guarded;
 use crate::name_list::NameList;
-use rsml_syntax::{Case, Decl, NoMemory, Phrase, Row, SendCase, Text};
+use rsml_syntax::{Decl, NoMemory, Phrase, Row, Text};
 use std::alloc::Global;
 use std::marker::Model;
 
@@ -72,32 +73,24 @@ impl<'a> Variables<'a> {
     {
         match decl {
             Decl::Macro { rows, .. } => self.with_rows(place, rows.as_slice()),
-            Decl::Function { cases, .. } => self.with_cases(place, cases.as_slice()),
-            Decl::Send { cases, .. } => self.with_send_cases(place, cases.as_slice()),
+            Decl::Function { cases, .. } => self.with_guards(place, cases.as_slice()),
+            Decl::Send { cases, .. } => self.with_guards(place, cases.as_slice()),
             _ => Ok(self),
         }
     }
 
-    /// These and the variables of the cases of a function.
-    fn with_cases(self, place: usize, cases: &'a [Case]) -> Result<Variables<'a>, NoMemory>
+    /// These and the variables of guards.
+    fn with_guards<G: Guarded>(
+        self,
+        place: usize,
+        guarded: &'a [G],
+    ) -> Result<Variables<'a>, NoMemory>
         ensures { IfOk result (λ v. v
-            ≡ self.entry ++ flat_map (λ c. names.of_guard place c.guard) cases.now) }
+            ≡ self.entry ++ flat_map (λ x. names.of_guard place (G.guard_of x)) guarded.now) }
     {
         let mut variables = self;
-        for case in cases {
-            variables = variables.with_rows(place, rows_of(&case.guard))?;
-        }
-        Ok(variables)
-    }
-
-    /// These and the variables of the cases of a send.
-    fn with_send_cases(self, place: usize, cases: &'a [SendCase]) -> Result<Variables<'a>, NoMemory>
-        ensures { IfOk result (λ v. v
-            ≡ self.entry ++ flat_map (λ c. names.of_guard place c.guard) cases.now) }
-    {
-        let mut variables = self;
-        for case in cases {
-            variables = variables.with_rows(place, rows_of(&case.guard))?;
+        for each in guarded {
+            variables = variables.with_rows(place, rows_of(each.guard()))?;
         }
         Ok(variables)
     }
@@ -119,8 +112,9 @@ impl<'a> Variables<'a> {
     {
         match phrase {
             Phrase::Plain(_) => Ok(self),
-            Phrase::Any { variable, .. } => self.put(place, variable),
-            Phrase::Every { variable, .. } => self.put(place, variable),
+            Phrase::Any { variable, .. } | Phrase::Every { variable, .. } => {
+                self.put(place, variable)
+            }
         }
     }
 
