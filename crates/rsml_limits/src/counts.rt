@@ -1,6 +1,5 @@
 //! Counts what the limits L1 to L6 of a specification are about.
 
-mod buses;
 mod counted;
 mod counted_names;
 mod declarations;

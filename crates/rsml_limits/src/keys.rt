@@ -3,7 +3,6 @@
 mod ask_blocks;
 mod class;
 mod counting;
-mod numbers;
 mod order;
 mod sum_lists;
 mod sums;

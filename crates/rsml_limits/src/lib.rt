@@ -5,6 +5,7 @@ mod comparisons;
 mod counts;
 mod keys;
 mod over;
+mod places;
 mod thresholds;
 
 pub use over::{Over, lowest_over};

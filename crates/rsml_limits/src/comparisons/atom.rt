@@ -3,13 +3,12 @@ ghost use Rattle.std.specs.Option.{option_map};
 ghost use Rattle.rsml_syntax.specs.limits.Comparisons as spec;
 ghost use Rattle.rsml_syntax.specs.rules.Globals as names;
 ghost use Rattle.rsml_syntax.specs.limits.Thresholds as thresholds;
-ghost use Rattle.rsml_syntax.specs.rules.Uses as uses;
 ghost use Rattle.rsml_limits.specs.comparisons.Shown.{shown_atom, shown_cell};
 
 use crate::comparisons::indices::Indices;
 use crate::comparisons::input_cell::InputCell;
 use rsml_names::{Globals, Known};
-use rsml_syntax::{Decl, Mention, NoMemory, Operand};
+use rsml_syntax::{Mention, NoMemory, Operand};
 
 /// What an operand is in one reading of a row.
 #[derive(Clone, Copy, PartialEq, Eq, Hash)]
@@ -61,7 +60,7 @@ impl<'a> Atom<'a> {
         match globals.meaning(&mention.name) {
             None => Ok(Atom::Number(0)),
             Some(known) => {
-                if is_input(known) {
+                if known.is_input() {
                     Ok(Atom::InputCell(InputCell::mentioned(globals, indices, false, mention)))
                 } else {
                     Ok(Atom::Number(number_of(known)?))
@@ -69,13 +68,6 @@ impl<'a> Atom<'a> {
             }
         }
     }
-}
-
-// Whether this is the name of an input.
-fn is_input(known: &Known<'_>) -> bool
-    ensures { result ≡ uses.is_input known.now }
-{
-    matches!(known.decl, Decl::Input { .. })
 }
 
 // The number of a constant or of an enumeration's value, which is its place.

@@ -5,10 +5,10 @@ ghost use Rattle.rsml_syntax.specs.grammar.Parts.{Declared};
 ghost use Rattle.rsml_syntax.specs.grammar.Written as written;
 ghost use Rattle.rsml_limits.specs.comparisons.Searched.{searched};
 
-use crate::comparisons::phrases::rows;
+use crate::comparisons::phrases::{each_guard, rows};
 use crate::comparisons::search::Search;
-use rsml_names::{rows_of, size_of};
-use rsml_syntax::{Amount, Case, Decl, NoMemory, SendCase};
+use rsml_names::size_of;
+use rsml_syntax::{Amount, Decl, NoMemory};
 use std::alloc::Global;
 
 /// Goes through the comparisons of a declaration, once for each of its instances.
@@ -56,42 +56,8 @@ fn rows_in<'a>(
 {
     match decl {
         Decl::Macro { rows: written, .. } => rows(alloc, search, written.as_slice(), this),
-        Decl::Function { cases, .. } => each_case(alloc, search, cases.as_slice(), this),
-        Decl::Send { cases, .. } => each_send_case(alloc, search, cases.as_slice(), this),
+        Decl::Function { cases, .. } => each_guard(alloc, search, cases.as_slice(), this),
+        Decl::Send { cases, .. } => each_guard(alloc, search, cases.as_slice(), this),
         _ => Ok(()),
     }
-}
-
-// The rows of a function's cases.
-fn each_case<'a>(
-    alloc: Global,
-    search: &mut Search<'_, 'a>,
-    cases: &'a [Case],
-    this: u64,
-) -> Result<(), NoMemory>
-    ensures { OnOk result (search.new
-        ≡ searched search.old (λ g.
-        spec.rows_comparisons g (flat_map (λ c. written.rows_of c.guard) cases.now) this)) }
-{
-    for case in cases {
-        rows(alloc, search, rows_of(&case.guard), this)?;
-    }
-    Ok(())
-}
-
-// The rows of a send's cases.
-fn each_send_case<'a>(
-    alloc: Global,
-    search: &mut Search<'_, 'a>,
-    cases: &'a [SendCase],
-    this: u64,
-) -> Result<(), NoMemory>
-    ensures { OnOk result (search.new
-        ≡ searched search.old (λ g.
-        spec.rows_comparisons g (flat_map (λ c. written.rows_of c.guard) cases.now) this)) }
-{
-    for case in cases {
-        rows(alloc, search, rows_of(&case.guard), this)?;
-    }
-    Ok(())
 }

@@ -1,14 +1,32 @@
 ghost use Rattle.std.specs.Prelude.{◌≡◌, OnOk, Some, flat_map};
 ghost use Rattle.rsml_syntax.specs.limits.Comparisons as spec;
-ghost use Rattle.rsml_syntax.specs.rules.Globals as names;
+ghost use Rattle.rsml_syntax.specs.grammar.Written as written;
 ghost use Rattle.rsml_limits.specs.comparisons.Searched.{searched};
 
 use crate::comparisons::ask::{Ask, Left};
 use crate::comparisons::indices::Indices;
 use crate::comparisons::search::Search;
 use crate::comparisons::sums::terms_of;
+use rsml_names::{Guarded, rows_of};
 use rsml_syntax::{Amount, Mention, NoMemory, Phrase, Relation, Row, Simple, Sum, Text};
 use std::alloc::Global;
+
+/// Goes through the comparisons of guards in the instance of this index.
+pub fn each_guard<'a, G: Guarded>(
+    alloc: Global,
+    search: &mut Search<'_, 'a>,
+    guarded: &'a [G],
+    this: u64,
+) -> Result<(), NoMemory>
+    ensures { OnOk result (search.new
+        ≡ searched search.old (λ g.
+        spec.rows_comparisons g (flat_map (λ x. written.rows_of (G.guard_of x)) guarded.now) this)) }
+{
+    for each in guarded {
+        rows(alloc, search, rows_of(each.guard()), this)?;
+    }
+    Ok(())
+}
 
 /// Goes through the comparisons of rows in the instance of this index.
 pub fn rows<'a>(
@@ -42,8 +60,8 @@ fn phrase<'a>(
             variable,
             bound,
             body,
-        } => each_value(alloc, search, variable, bound, body, this),
-        Phrase::Every {
+        }
+        | Phrase::Every {
             variable,
             bound,
             body,

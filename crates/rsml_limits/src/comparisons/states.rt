@@ -2,12 +2,11 @@ ghost use Rattle.std.specs.Prelude.{◌≡◌, OnOk, Some, flat_map};
 ghost use Rattle.std.specs.Option.{option_copied};
 ghost use Rattle.rsml_syntax.specs.limits.Comparisons as spec;
 ghost use Rattle.rsml_syntax.specs.grammar.Parts as parts;
-ghost use Rattle.rsml_syntax.specs.grammar.Written as written;
 ghost use Rattle.rsml_limits.specs.comparisons.Searched.{searched, transition_comparisons, child_comparisons};
 
-use crate::comparisons::phrases::rows;
+use crate::comparisons::phrases::each_guard;
 use crate::comparisons::search::Search;
-use rsml_names::{nearer, rows_of, transitions_of};
+use rsml_names::{nearer, transitions_of};
 use rsml_syntax::{Amount, Body, NoMemory, StateDecl, Transition};
 use std::alloc::Global;
 
@@ -63,7 +62,7 @@ pub fn state<'a>(
 {
     let transitions = transitions_of(body);
     match array {
-        None => each_transition(alloc, search, transitions, 0),
+        None => each_guard(alloc, search, transitions, 0),
         Some(size) => each_instance(alloc, search, transitions, size),
     }
 }
@@ -80,24 +79,7 @@ fn each_instance<'a>(
 {
     let count = search.globals().many(Some(size));
     for below in 0..count {
-        each_transition(alloc, search, transitions, below + 1)?;
-    }
-    Ok(())
-}
-
-// The rows of transitions in the instance of this index.
-fn each_transition<'a>(
-    alloc: Global,
-    search: &mut Search<'_, 'a>,
-    transitions: &'a [Transition],
-    this: u64,
-) -> Result<(), NoMemory>
-    ensures { OnOk result (search.new
-        ≡ searched search.old (λ g.
-        spec.rows_comparisons g (flat_map (λ t. written.rows_of t.guard) transitions.now) this)) }
-{
-    for transition in transitions {
-        rows(alloc, search, rows_of(&transition.guard), this)?;
+        each_guard(alloc, search, transitions, below + 1)?;
     }
     Ok(())
 }

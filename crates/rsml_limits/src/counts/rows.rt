@@ -7,8 +7,8 @@ ghost use Rattle.rsml_syntax.specs.limits.Limits.{adds, shown};
 ghost use Rattle.rsml_syntax.specs.grammar.Written as written;
 ghost use Rattle.rsml_limits.specs.counts.Counting as spec;
 
-use rsml_names::{Globals, rows_of};
-use rsml_syntax::{Case, Decl, Guard, Phrase, Row, SendCase};
+use rsml_names::{Globals, Guarded, rows_of};
+use rsml_syntax::{Decl, Guard, Phrase, Row};
 
 /// The ground rows of a row.
 fn ground_rows(globals: &Globals<'_>, row: &Row) -> u64
@@ -38,24 +38,13 @@ pub fn guard_rows(globals: &Globals<'_>, guard: &Guard) -> u64
     table_rows(globals, rows_of(guard))
 }
 
-/// The ground rows of the cases of a function.
-fn case_rows(globals: &Globals<'_>, cases: &[Case]) -> u64
-    ensures { result ≡ shown (adds (λ c. spec.guard_rows globals.now c.guard) cases.now) }
+/// The ground rows of guards.
+fn all_guard_rows<G: Guarded>(globals: &Globals<'_>, guarded: &[G]) -> u64
+    ensures { result ≡ shown (adds (λ x. spec.guard_rows globals.now (G.guard_of x)) guarded.now) }
 {
     let mut count = 0u64;
-    for case in cases {
-        count = count.saturating_add(guard_rows(globals, &case.guard));
-    }
-    count
-}
-
-/// The ground rows of the cases of an output interface.
-fn send_case_rows(globals: &Globals<'_>, cases: &[SendCase]) -> u64
-    ensures { result ≡ shown (adds (λ c. spec.guard_rows globals.now c.guard) cases.now) }
-{
-    let mut count = 0u64;
-    for case in cases {
-        count = count.saturating_add(guard_rows(globals, &case.guard));
+    for each in guarded {
+        count = count.saturating_add(guard_rows(globals, each.guard()));
     }
     count
 }
@@ -66,8 +55,8 @@ pub fn instance_rows(globals: &Globals<'_>, decl: &Decl) -> u64
 {
     match decl {
         Decl::Macro { rows, .. } => table_rows(globals, rows.as_slice()),
-        Decl::Function { cases, .. } => case_rows(globals, cases.as_slice()),
-        Decl::Send { cases, .. } => send_case_rows(globals, cases.as_slice()),
+        Decl::Function { cases, .. } => all_guard_rows(globals, cases.as_slice()),
+        Decl::Send { cases, .. } => all_guard_rows(globals, cases.as_slice()),
         _ => 0,
     }
 }

@@ -8,13 +8,22 @@ ghost use Rattle.rsml_syntax.specs.grammar.Parts as parts;
 ghost use Rattle.rsml_limits.specs.counts.Counting as spec;
 ghost use Rattle.rsml_limits.specs.counts.Counting.{Shows};
 
-use crate::counts::buses::Buses;
 use crate::counts::counted::Counted;
 use crate::counts::counted_names::CountedNames;
 use crate::counts::rows::guard_rows;
-use rsml_names::{Globals, buses_of, nearer, transitions_of};
+use rsml_names::{Buses, Globals, buses_of, nearer, transitions_of};
 use rsml_syntax::{Amount, Body, NoMemory, StateDecl, Transition};
 use std::alloc::Global;
+
+/// The ground sources of a transition, among the buses of its state.
+fn sources(buses: &Buses<'_>, transition: &Transition) -> u64
+    ensures { result ≡ spec.sources_among buses.now transition.now }
+{
+    match buses.bus(&transition.source) {
+        Some(bus) => bus.members.len() as u64,
+        None => 1,
+    }
+}
 
 /// The ground transitions of one instance of a state.
 fn all_sources(buses: &Buses<'_>, transitions: &[Transition]) -> u64
@@ -22,7 +31,7 @@ fn all_sources(buses: &Buses<'_>, transitions: &[Transition]) -> u64
 {
     let mut count = 0u64;
     for transition in transitions {
-        count = count.saturating_add(buses.sources(transition));
+        count = count.saturating_add(sources(buses, transition));
     }
     count
 }
@@ -34,7 +43,7 @@ fn all_rows(globals: &Globals<'_>, buses: &Buses<'_>, transitions: &[Transition]
     let mut count = 0u64;
     for transition in transitions {
         let rows = guard_rows(globals, &transition.guard);
-        count = count.saturating_add(buses.sources(transition).saturating_mul(rows));
+        count = count.saturating_add(sources(buses, transition).saturating_mul(rows));
     }
     count
 }

@@ -7,9 +7,9 @@ ghost use Rattle.rsml_limits.specs.keys.Shown.{shown_order};
 
 use crate::comparisons::GroundTerm;
 use crate::keys::class::Class;
-use crate::keys::numbers::number_of;
 use crate::keys::order::Order;
 use crate::keys::sums::Sums;
+use crate::places::number_of;
 use indexmap::IndexSet;
 use rsml_syntax::NoMemory;
 use std::alloc::Global;

@@ -5,6 +5,7 @@ ghost use Rattle.rsml_limits.specs.thresholds.Pairs.{grid};
 ghost use Rattle.rsml_limits.specs.thresholds.Tabled.{cell_at, table_pairs, AreWithin, Extends};
 
 use crate::comparisons::InputCell;
+use crate::places::number_of;
 use indexmap::IndexSet;
 use pair_counts::Block;
 use rsml_syntax::NoMemory;
@@ -56,15 +57,5 @@ fn place_of<'a>(cells: &mut IndexSet<InputCell<'a>>, cell: InputCell<'a>) -> Res
         cell_at (map shown_cell cells.new.keys) place ≡ shown_cell cell.entry) }
 {
     let (place, _) = cells.insert_full(cell)?;
-    as_number(place)
-}
-
-/// A place as a number of 32 bits: more are not counted.
-pub fn as_number(place: usize) -> Result<u32, NoMemory>
-    ensures { IfOk result (λ number. number ≡ place) }
-{
-    match u32::try_from(place) {
-        Ok(number) => Ok(number),
-        Err(_) => Err(NoMemory),
-    }
+    number_of(place)
 }

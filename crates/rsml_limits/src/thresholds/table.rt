@@ -5,7 +5,8 @@ ghost use Rattle.rsml_limits.specs.comparisons.Shown.{shown_cell};
 ghost use Rattle.rsml_limits.specs.thresholds.Pairs.{grid, has_inner};
 
 use crate::comparisons::InputCell;
-use crate::thresholds::blocks::{as_number, put_blocks};
+use crate::places::number_of;
+use crate::thresholds::blocks::put_blocks;
 use crate::thresholds::ranges::ranges_of;
 use indexmap::IndexSet;
 use pair_counts::{Block, count_entries};
@@ -68,7 +69,7 @@ impl<'a> Table<'a> {
         if cells.is_empty() || numbers.is_empty() {
             return Ok(());
         }
-        let list = as_number(self.lists.len())?;
+        let list = number_of(self.lists.len())?;
         self.lists.push(numbers)?;
         put_blocks(&mut self.cells, &mut self.blocks, cells.as_slice(), list)
     }

@@ -9,4 +9,4 @@ use Rattle.rsml_limits.proofs.comparisons.states.each_instance.Goals as goal
 pub loop-below-preserved : goal.loop-below-preserved
 loop-below-preserved c =
     searched_next (λ (g : Globals). rows_comparisons g (flat_map (λ (t : Transition). rows_of t.guard) c.args.transitions.now)) _ _ _ _
-    c.loop-below.invariant c.in_ok-each_transition.ensures
+    c.loop-below.invariant c.in_ok-each_guard.ensures

@@ -10,4 +10,4 @@ returns-clause-cell c =
     let cells = map shown_cell c.insert_full.new.self.keys in
     let stored = c.in_ok-place.ensures.stored in
     let found = cell_found c.insert_full.new.self.keys c.in_ok-place.place c.args.cell stored.0 stored.1 stored.2 in
-    IfOk-weaker c.as_number.result (λ n. n ≡ c.in_ok-place.place) (λ n. cell_at cells n ≡ shown_cell c.args.cell) (λ n e. ap (cell_at cells) e ∙ found) c.as_number.ensures
+    IfOk-weaker c.number_of.result (λ n. n ≡ c.in_ok-place.place) (λ n. cell_at cells n ≡ shown_cell c.args.cell) (λ n e. ap (cell_at cells) e ∙ found) c.number_of.ensures

@@ -1,6 +1,0 @@
-use Rattle.std.proofs.Common.{◌≡◌, map, take}
-use Rattle.rsml_syntax.specs.declared.syntax.Bus.{Bus}
-use Rattle.rsml_limits.proofs.counts.buses.names_of.Given as goal
-
-abbrev pub invariant-loop-bus : goal.invariant-loop-bus
-invariant-loop-bus l = l.names ≡ map (λ (b : Bus). b.name) (take l.bus-index l.buses)
