@@ -4,14 +4,15 @@ ghost use Rattle.linear_conflicts.specs.Steps.{places};
 
 use crate::combination::is_contradiction;
 use crate::multiplier::Multiplier;
+use crate::opposites::opposites;
 use crate::range::Range;
 use crate::row::Row;
 use crate::simplex::multipliers;
 use rsml_base::NoMemory;
 use std::alloc::Global;
 
-// More rows or variables than this are not looked at.
-const MOST: usize = 256;
+// More rows than this are not looked at.
+const MOST: usize = 1024;
 
 /// The places of rows that no whole numbers within the ranges meet together, where such rows are
 /// found. None says nothing.
@@ -22,10 +23,26 @@ pub fn conflict(
 ) -> Result<Option<Vec<usize>>, NoMemory>
     ensures { IfOk result (λ found. IfSome found (λ core. AreInConflict ranges.now rows.now core.items)) }
 {
-    if rows.len() > MOST || ranges.len() > MOST {
+    if rows.len() > MOST {
         return Ok(None);
     }
-    let Some(multipliers) = multipliers(alloc, rows, ranges)? else {
+    let found = confirmed(alloc, rows, ranges, opposites(alloc, rows)?)?;
+    if found.is_some() {
+        return Ok(found);
+    }
+    confirmed(alloc, rows, ranges, multipliers(alloc, rows, ranges)?)
+}
+
+// The places of the rows with these multipliers, where they are a contradiction in some scale.
+fn confirmed(
+    alloc: Global,
+    rows: &[Row],
+    ranges: &[Range],
+    multipliers: Option<Vec<Multiplier>>,
+) -> Result<Option<Vec<usize>>, NoMemory>
+    ensures { IfOk result (λ found. IfSome found (λ core. AreInConflict ranges.now rows.now core.items)) }
+{
+    let Some(multipliers) = multipliers else {
         return Ok(None);
     };
     if is_confirmed(alloc, rows, ranges, multipliers.as_slice())? {

@@ -5,6 +5,7 @@ mod combination;
 mod conflicts;
 mod line;
 mod multiplier;
+mod opposites;
 mod range;
 mod row;
 mod simplex;

@@ -11,9 +11,14 @@ pub struct Variable {
 pub const NEAR: f64 = 0.000001;
 
 impl Variable {
-    /// Whether its range has a value.
-    pub fn has(self, value: f64) -> bool {
-        self.low - NEAR <= value && value <= self.high + NEAR
+    /// Whether its value is within its range.
+    pub fn is_within(self) -> bool {
+        self.low - NEAR <= self.value && self.value <= self.high + NEAR
+    }
+
+    /// Whether its value is below its range.
+    pub fn is_below(self) -> bool {
+        self.value < self.low
     }
 
     /// Whether it can rise within its range, or fall.
@@ -23,5 +28,10 @@ impl Variable {
         } else {
             self.low + NEAR < self.value
         }
+    }
+
+    /// The end of its range that its value has passed.
+    pub fn passed_end(self) -> f64 {
+        if self.is_below() { self.low } else { self.high }
     }
 }
