@@ -74,7 +74,7 @@ fn tell_named(
     globals: &Globals<'_>,
     texts: &Texts<'_>,
 ) -> Result<(), NoMemory> {
-    let source = Source::new(subject.file, notes.text());
+    let source = Source::new(notes.alloc(), subject.file, notes.text());
     let scene = Scene {
         machine,
         texts,

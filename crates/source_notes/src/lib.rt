@@ -5,9 +5,10 @@ mod comments;
 mod notes;
 mod piece;
 mod places;
+mod shown;
 
 pub use notes::{Notes, Spot, spot_of};
 pub use piece::{Piece, put_code, put_item, put_place};
 pub use places::{
-    back, character_length, characters_in, column_of, front, line_of, line_start, token_text,
+    Place, Places, back, character_length, characters_in, front, line_start, token_text,
 };

@@ -3,7 +3,8 @@ ghost use Rattle.source_notes.specs.Comments.{AreComments};
 
 use crate::comments::{Comments, Line};
 use crate::piece::{Piece, put_form, put_place};
-use crate::places::{begins_character, characters_in, column_of, line_at, line_start};
+use crate::places::{Near, Places, begins_character, characters_in, part_near};
+use crate::shown::shown;
 use rsml_base::{NoMemory, Text};
 use std::alloc::Global;
 use text_writer::{Draft, Writer};
@@ -15,13 +16,24 @@ const WIDTH: usize = 120;
 const BEFORE: usize = 60;
 
 /// Comment lines on a text. Once memory is refused, lines may be missing; then `bytes` is out of memory.
-#[derive(Drop)]
 pub struct Notes<'t> {
     alloc: Global,
     file: &'t [u8],
-    text: &'t [u8],
+    places: Places<'t>,
     comments: Comments,
     is_refused: bool,
+}
+
+impl Drop for Notes<'_> {
+    fn drop(self) {
+        let Self {
+            alloc: _,
+            file: _,
+            places: _,
+            comments: _,
+            is_refused: _,
+        } = self;
+    }
 }
 
 /// A part of a line of the text: the offset at which it begins, and its width in characters.
@@ -72,12 +84,12 @@ fn shown_byte(byte: u8, is_text: bool) -> u8 {
 }
 
 /// Puts what is shown of a line, so many bytes of which are UTF-8.
-fn put_window(line: &mut Draft, shown: &[u8], window: Window, valid: usize) {
+fn put_window(line: &mut Draft, near: Near<'_>, window: Window, valid: usize) {
     if window.from > 0 {
         line.put(b"...");
     }
-    let mut next: usize = 0;
-    for (place, byte) in shown.iter().enumerate() {
+    let mut next = near.skipped;
+    for (place, byte) in near.bytes.iter().enumerate() {
         let is_text = place < valid;
         if !is_text || begins_character(*byte) {
             next = next.saturating_add(1);
@@ -92,12 +104,12 @@ fn put_window(line: &mut Draft, shown: &[u8], window: Window, valid: usize) {
 }
 
 /// Puts the blanks that stand below what is shown before a column.
-fn put_blanks(line: &mut Draft, shown: &[u8], window: Window, column: usize) {
+fn put_blanks(line: &mut Draft, near: Near<'_>, window: Window, column: usize) {
     if window.from > 0 {
         line.put(b"   ");
     }
-    let mut next: usize = 0;
-    for byte in shown {
+    let mut next = near.skipped;
+    for byte in near.bytes {
         if begins_character(*byte) {
             next = next.saturating_add(1);
             if window.from < next && next < column {
@@ -116,7 +128,7 @@ impl<'t> Notes<'t> {
         Notes {
             alloc,
             file,
-            text,
+            places: Places::new(alloc, text),
             comments: Comments::new(alloc),
             is_refused: false,
         }
@@ -127,7 +139,7 @@ impl<'t> Notes<'t> {
     }
 
     pub fn text(&self) -> &'t [u8] {
-        self.text
+        self.places.text()
     }
 
     /// How many lines there are.
@@ -138,6 +150,7 @@ impl<'t> Notes<'t> {
     /// A line with these bytes.
     fn add(&mut self, line: Draft) -> Result<(), NoMemory> {
         let bytes = line.finish()?;
+        let bytes = shown(self.alloc, bytes.as_slice())?;
         let line = Line::new(self.alloc, bytes.as_slice())?;
         self.comments.add(line)
     }
@@ -159,7 +172,7 @@ impl<'t> Notes<'t> {
     /// A sentence on a line.
     fn sentence(&mut self, form: &str, gaps: [Piece<'_>; 4]) {
         let mut line = self.line("  ");
-        put_form(&mut line, self.text, form, gaps);
+        put_form(&mut line, &self.places, form, gaps);
         self.keep(line);
     }
 
@@ -195,7 +208,7 @@ impl<'t> Notes<'t> {
         let mut line = Draft::new(self.alloc);
         line.put(self.file);
         line.put(b":");
-        put_place(&mut line, self.text, at);
+        put_place(&mut line, &self.places, at);
         line.put(b": ");
         line.put(word.as_bytes());
         line
@@ -204,7 +217,7 @@ impl<'t> Notes<'t> {
     /// `FILE:LINE:COLUMN: `, a word and a sentence.
     fn head(&mut self, at: usize, word: &str, form: &str, gaps: [Piece<'_>; 4]) {
         let mut line = self.line_at(at, word);
-        put_form(&mut line, self.text, form, gaps);
+        put_form(&mut line, &self.places, form, gaps);
         self.keep(line);
     }
 
@@ -219,16 +232,17 @@ impl<'t> Notes<'t> {
         self.shown(spot, usize::MAX);
     }
 
-    /// The source line, so many bytes of which are UTF-8, and a line with carets below a part of it.
+    /// The source line, of which what stands before an offset is UTF-8, and a line with carets below a part of it.
     fn shown(&mut self, spot: Spot, valid: usize) {
-        let source = line_at(self.text, spot.at);
-        let column = column_of(self.text, spot.at);
-        let window = window_of(characters_in(source), column);
+        let place = self.places.place_of(spot.at);
+        let near = part_near(self.text(), spot.at, place);
+        let characters = near.skipped.saturating_add(characters_in(near.bytes));
+        let window = window_of(characters, place.column);
         let mut line = self.line("    ");
-        put_window(&mut line, source, window, valid);
+        put_window(&mut line, near, window, valid.saturating_sub(near.from));
         self.keep(line);
         let mut line = self.line("    ");
-        put_blanks(&mut line, source, window, column);
+        put_blanks(&mut line, near, window, place.column);
         for _ in 0..spot.width.max(1).min(WIDTH) {
             line.put(b"^");
         }
@@ -258,8 +272,7 @@ impl<'t> Notes<'t> {
     pub fn fault_at_byte(&mut self, at: usize, form: &str, one: Piece<'_>) {
         let gaps = [one, Piece::Nothing, Piece::Nothing, Piece::Nothing];
         self.head(at, "error: ", form, gaps);
-        let valid = at.saturating_sub(line_start(self.text, at));
-        self.shown(Spot { at, width: 1 }, valid);
+        self.shown(Spot { at, width: 1 }, at);
     }
 
     /// A note at a part of the text, with up to four pieces.

@@ -1,4 +1,4 @@
-use crate::places::{column_of, line_of};
+use crate::places::Places;
 use rsml_base::Text;
 use text_writer::{Draft, Writer, put_number, put_signed};
 
@@ -25,14 +25,15 @@ pub fn put_code(line: &mut Draft, code: &[u8]) {
 }
 
 /// Puts `LINE:COLUMN` of an offset.
-pub fn put_place(line: &mut Draft, text: &[u8], at: usize) {
-    put_number(line, line_of(text, at) as u64);
+pub fn put_place(line: &mut Draft, places: &Places<'_>, at: usize) {
+    let place = places.place_of(at);
+    put_number(line, place.line as u64);
     line.put(b":");
-    put_number(line, column_of(text, at) as u64);
+    put_number(line, place.column as u64);
 }
 
 /// Puts a piece of a sentence on a text.
-fn put_piece(line: &mut Draft, text: &[u8], piece: Piece<'_>) {
+fn put_piece(line: &mut Draft, places: &Places<'_>, piece: Piece<'_>) {
     match piece {
         Piece::Nothing => {}
         Piece::Words(words) => line.put(words.as_bytes()),
@@ -40,25 +41,25 @@ fn put_piece(line: &mut Draft, text: &[u8], piece: Piece<'_>) {
         Piece::Code(code) => put_code(line, code),
         Piece::Count(count) => put_number(line, count as u64),
         Piece::Number(number) => put_signed(line, number),
-        Piece::Place(at) => put_place(line, text, at as usize),
+        Piece::Place(at) => put_place(line, places, at as usize),
     }
 }
 
 /// Puts the piece at a place of four.
-fn put_gap(line: &mut Draft, text: &[u8], place: usize, gaps: [Piece<'_>; 4]) {
+fn put_gap(line: &mut Draft, places: &Places<'_>, place: usize, gaps: [Piece<'_>; 4]) {
     match gaps.get(place) {
-        Some(piece) => put_piece(line, text, *piece),
+        Some(piece) => put_piece(line, places, *piece),
         None => {}
     }
 }
 
 /// Puts a sentence on a text. Pieces fill its gaps, which are written `{}`, in their order.
-pub fn put_form(line: &mut Draft, text: &[u8], form: &str, gaps: [Piece<'_>; 4]) {
+pub fn put_form(line: &mut Draft, places: &Places<'_>, form: &str, gaps: [Piece<'_>; 4]) {
     let mut place: usize = 0;
     let mut opened = false;
     for byte in form.as_bytes() {
         if opened && *byte == b'}' {
-            put_gap(line, text, place, gaps);
+            put_gap(line, places, place, gaps);
             place = place.saturating_add(1);
         } else if opened {
             line.put(b"{");
