@@ -7,19 +7,55 @@ ghost use Rattle.rsml_io.specs.SystemSink.{written};
 use crate::failed::Failed;
 use crate::files::Files;
 use crate::sink::Sink;
+use std::alloc::Global;
 use std::io::{Read, Seek, SeekFrom, Write};
 use std::marker::Model;
 use std::{fs, io, rt};
 
-/// The files of the system. What they hold is not told. Contracts see the count of refused reads,
-/// which all names share.
+/// A file of the system that is open, and the place from which on it gives bytes.
+struct Opened<F> {
+    name: String,
+    file: F,
+    at: u64,
+}
+
+impl<F: Drop> Drop for Opened<F> {
+    fn drop(self) {
+        let Self {
+            name: _,
+            file: _,
+            at: _,
+        } = self;
+    }
+}
+
+impl<F: Read + Seek> Opened<F> {
+    /// Reads from a place on. The file is sought only where it is at another one.
+    fn read_at(&mut self, at: u64, into: &mut [u8]) -> io::Result<usize>
+        ensures { IfOk result (λ n. n ≤ length into.old) }
+    {
+        if self.at != at {
+            self.file.seek(SeekFrom::Start(at))?;
+            self.at = at;
+        }
+        let n = self.file.read(into)?;
+        self.at = self.at.saturating_add(n as u64);
+        Ok(n)
+    }
+}
+
+/// The files of the system. The one that was read last stays open: what cannot be sought, as a pipe, is read once, from its start to
+/// its end, and another read of it is refused. What files hold is not told. Contracts see the count of refused reads, which all names
+/// share.
 #[derive(Drop)]
-pub struct OsFiles<'a, R> {
+pub struct OsFiles<'a, R: rt::Files> {
     rt: &'a R,
+    alloc: Global,
+    opened: Option<Opened<R::File>>,
     faults: u64,
 }
 
-impl<'a, R> Model for OsFiles<'a, R> {
+impl<'a, R: rt::Files> Model for OsFiles<'a, R> {
     ghost use Rattle.std.specs.Prelude.{ℕ};
 
     ghost Value = { ℕ };
@@ -28,19 +64,50 @@ impl<'a, R> Model for OsFiles<'a, R> {
 }
 
 impl<'a, R: rt::Files> OsFiles<'a, R> {
-    pub fn new(rt: &'a R) -> OsFiles<'a, R>
+    pub fn new(alloc: Global, rt: &'a R) -> OsFiles<'a, R>
         ensures { result ≡ 0 }
     {
-        OsFiles { rt, faults: 0 }
+        OsFiles {
+            rt,
+            alloc,
+            opened: None,
+            faults: 0,
+        }
     }
-}
 
-fn read_at<R: rt::Files>(rt: &R, name: &str, at: u64, into: &mut [u8]) -> io::Result<usize>
-    ensures { IfOk result (λ n. n ≤ length into.old) }
-{
-    let mut file = fs::open(rt, name)?;
-    file.seek(SeekFrom::Start(at))?;
-    file.read(into)
+    /// Whether the file of that name is open.
+    fn is_open(&self, name: &str) -> bool {
+        match &self.opened {
+            Some(opened) => opened.name.as_str() == name,
+            None => false,
+        }
+    }
+
+    /// Opens a file, unless it is open.
+    fn open(&mut self, name: &str) -> io::Result<()>
+        ensures { self.new ≡ self.old }
+    {
+        if !self.is_open(name) {
+            self.opened = Some(Opened {
+                name: String::from_str(self.alloc, name)?,
+                file: fs::open(self.rt, name)?,
+                at: 0,
+            });
+        }
+        Ok(())
+    }
+
+    /// Reads bytes of a file from a place on.
+    fn read_at(&mut self, name: &str, at: u64, into: &mut [u8]) -> io::Result<usize>
+        ensures same { self.new ≡ self.old }
+        ensures bound { IfOk result (λ n. n ≤ length into.old) }
+    {
+        self.open(name)?;
+        match &mut self.opened {
+            Some(opened) => opened.read_at(at, into),
+            None => Err(io::Error::from(io::ErrorKind::NotFound)),
+        }
+    }
 }
 
 impl<R: rt::Files> Files for OsFiles<'_, R> {
@@ -51,7 +118,7 @@ impl<R: rt::Files> Files for OsFiles<'_, R> {
     ghost faults = { λ faults _. faults };
 
     fn read(&mut self, name: &str, at: u64, into: &mut [u8]) -> Result<usize, Failed> {
-        match read_at(self.rt, name, at, into) {
+        match self.read_at(name, at, into) {
             Ok(n) => Ok(n),
             Err(_) => {
                 self.faults = self.faults.saturating_add(1);

@@ -18,26 +18,26 @@ fn words_of<R: Env + AllocGlobal>(rt: &R) -> io::Result<Vec<String>> {
 }
 
 /// Tells on standard error for what memory was refused, where that is known. What cannot be written there is lost.
-fn tell_memory(rt: &HostRuntime, words: &[String]) {
-    if let Ok(lines) = memory_lines(rt.alloc(), words, &mut OsFiles::new(rt)) {
+fn tell_memory(rt: &HostRuntime, words: &[String], files: &mut OsFiles<'_, HostRuntime>) {
+    if let Ok(lines) = memory_lines(rt.alloc(), words, files) {
         let _ = rt.stderr().write_all(lines.as_slice());
     }
 }
 
 /// Runs the command of the words.
-fn status_of(rt: &HostRuntime, words: &[String]) -> Status {
-    let mut files = OsFiles::new(rt);
+fn status_of(rt: &HostRuntime, words: &[String], files: &mut OsFiles<'_, HostRuntime>) -> Status {
     let mut sink = OsSink::new(io::writer(rt));
-    run(rt.alloc(), words, &mut files, &mut sink)
+    run(rt.alloc(), words, files, &mut sink)
 }
 
 fn main(rt: HostRuntime) -> ExitCode {
     let Ok(words) = words_of(&rt) else {
         return ExitCode::from(Status::NoMemory.number());
     };
-    let status = status_of(&rt, words.as_slice());
+    let mut files = OsFiles::new(rt.alloc(), &rt);
+    let status = status_of(&rt, words.as_slice(), &mut files);
     if status == Status::NoMemory {
-        tell_memory(&rt, words.as_slice());
+        tell_memory(&rt, words.as_slice(), &mut files);
     }
     ExitCode::from(status.number())
 }
