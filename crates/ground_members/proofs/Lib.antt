@@ -1,5 +1,4 @@
 pub mod Adding
-pub mod Buses
 pub mod EachInstance
 pub mod Grown
 pub mod Likeness

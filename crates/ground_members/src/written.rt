@@ -1,13 +1,11 @@
-ghost use Rattle.std.specs.Prelude.{◌≡◌, [], ◌+◌, ◌<◌, ◌++◌, IfOk, OnOk, find, flat_map, length, map, slice_get};
-ghost use Rattle.std.specs.Option.{option_copied};
+ghost use Rattle.std.specs.Prelude.{◌≡◌, [], ◌+◌, ◌<◌, ◌++◌, IfOk, OnOk, flat_map, length, map};
 ghost use Rattle.rsml_syntax.specs.rules.Globals.{Globals};
-ghost use Rattle.rsml_syntax.specs.text.Names.{same};
 ghost use Rattle.rsml_meaning.specs.Words.{numbered};
 ghost use Rattle.rsml_meaning.specs.Instances.{states, components};
 ghost use Rattle.rsml_meaning.specs.Transitions as spec;
 ghost use Rattle.ground_members.specs.Written.{component_at, made_from, made_at, all_made_by, of_state, ArePlaced, Adds};
 
-use rsml_names::{NameList, buses_of, transitions_of};
+use rsml_names::{Buses, buses_of, transitions_of};
 use rsml_syntax::{Bus, NoMemory, Text, Transition};
 use state_tree::{StepRef, Tree};
 use std::alloc::Global;
@@ -55,41 +53,11 @@ fn innermost(path: &[StepRef<'_>]) -> u8
     index
 }
 
-// The names of buses.
-fn bus_names<'a>(alloc: Global, buses: &'a [Bus]) -> Result<NameList<'a>, NoMemory>
-    ensures { IfOk result (λ names. names ≡ map (λ b. b.name) buses.now) }
-{
-    let mut names = NameList::new(alloc);
-    for bus in buses {
-        names.add(bus.name.bytes())?;
-    }
-    Ok(names)
-}
-
-// The bus at a place, if there is one.
-fn bus_at(buses: &[Bus], place: usize) -> Option<&Bus>
-    ensures { option_copied result ≡ slice_get buses.now place }
-{
-    buses.get(place)
-}
-
-// The bus of a name, if there is one.
-fn bus_named<'a>(names: &NameList<'_>, buses: &'a [Bus], name: &Text) -> Option<&'a Bus>
-    requires { names.now ≡ map (λ b. b.name) buses.now }
-    ensures { option_copied result ≡ find (λ b. same name.now b.name) buses.now }
-{
-    match names.find(name.bytes()) {
-        Some(place) => bus_at(buses, place),
-        None => None,
-    }
-}
-
 // The children that a source stands for: the members of a bus, or the one of that name.
-fn sources_of<'a>(names: &NameList<'_>, buses: &'a [Bus], source: &'a Text) -> &'a [Text]
-    requires { names.now ≡ map (λ b. b.name) buses.now }
+fn sources_of<'a>(buses: &Buses<'a>, source: &'a Text) -> &'a [Text]
     ensures { result.now ≡ spec.sources (component_at [] buses.now []) source.now }
 {
-    match bus_named(names, buses, source) {
+    match buses.bus(source) {
         Some(bus) => bus.members.as_slice(),
         None => slice::from_ref(source),
     }
@@ -120,18 +88,16 @@ fn add_transition<'a, 't>(
 fn add_transitions<'a, 't>(
     written: &mut Vec<Written<'a, 't>>,
     owner: Owner<'a, 't>,
-    names: &NameList<'_>,
-    buses: &'a [Bus],
+    buses: &Buses<'a>,
     transitions: &'a [Transition],
 ) -> Result<(), NoMemory>
-    requires { names.now ≡ map (λ b. b.name) buses.now }
     ensures { OnOk result (Adds owner.entry
         (λ g. flat_map (made_at g owner.entry.path.now buses.now) (numbered transitions.now))
         written.old.items written.new.items) }
 {
     for (place, transition) in transitions.iter().enumerate() {
         let ordinal = ordinal_of(place)?;
-        let sources = sources_of(names, buses, &transition.source);
+        let sources = sources_of(buses, &transition.source);
         add_transition(written, owner, ordinal, sources, transition)?;
     }
     Ok(())
@@ -149,8 +115,8 @@ fn add_component<'a, 't>(
         (λ g. flat_map (made_at g owner.entry.path.now buses.now) (numbered transitions.now))
         written.old.items written.new.items) }
 {
-    let names = bus_names(alloc, buses)?;
-    add_transitions(written, owner, &names, buses, transitions)
+    let buses = Buses::new(alloc, buses)?;
+    add_transitions(written, owner, &buses, transitions)
 }
 
 // Adds the transitions of a state, where it is a component.

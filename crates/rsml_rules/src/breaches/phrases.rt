@@ -8,14 +8,8 @@ use crate::breaches::paths::path_used;
 use crate::breaches::setting::Setting;
 use crate::breaches::uses::{amount_used, mentioned, sum_used};
 use crate::breaches::worst::Worst;
-use rsml_names::{Globals, Known, NameTables, Scope, rows_of};
-use rsml_syntax::{Amount, Decl, Guard, Operand, Phrase, Row, Simple, Sum, Text, Want};
-
-fn is_input(known: &Known<'_>) -> bool
-    ensures { result ≡ uses.is_input known.now }
-{
-    matches!(known.decl, Decl::Input { .. })
-}
+use rsml_names::{Globals, NameTables, Scope, rows_of};
+use rsml_syntax::{Amount, Guard, Operand, Phrase, Row, Simple, Sum, Text, Want};
 
 /// A number, a constant or a value of an enumeration.
 fn is_constant_operand(globals: &Globals<'_>, operand: &Operand) -> bool
@@ -24,7 +18,7 @@ fn is_constant_operand(globals: &Globals<'_>, operand: &Operand) -> bool
     match operand {
         Operand::Number(_) => true,
         Operand::Mention(mention) => match globals.meaning(&mention.name) {
-            Some(known) => !is_input(known),
+            Some(known) => !known.is_input(),
             None => true,
         },
         Operand::Previous(_) => false,
@@ -140,8 +134,8 @@ fn phrase_used<'a>(
             variable,
             bound,
             body,
-        } => quantified(setting, scope, variable, bound, body, worst),
-        Phrase::Every {
+        }
+        | Phrase::Every {
             variable,
             bound,
             body,
