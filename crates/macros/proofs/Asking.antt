@@ -1,6 +1,8 @@
 -- What is asked one after the other: phrases until one settles the truth, and cases until one has a true guard.
-use Rattle.std.proofs.Common.{◌≡◌, ℕ, ◌<◌, Bool, true, List, length, drop, map, Option, Some, ℤ, sym, ap, ◌∙◌, subst, slice_get, arith, get_or}
-use Rattle.std.specs.List.{All}
+use Rattle.std.proofs.Common.{◌≡◌, ℕ, ◌+◌, ◌<◌, Bool, true, false, not, ◌||◌, ◌&&◌, if◌then◌else◌, List, [], length, take, map, Option, Some, ℤ, refl, sym, ap, ◌∙◌, subst, slice_get, arith, get_or}
+use Rattle.std.specs.List.{All, list_any, list_all}
+use Rattle.std.proofs.Math.Bool.{beq}
+use Rattle.std.proofs.lemmas.List.Folds.{list_any_at, list_all_at, list_any_more, list_all_more}
 use Rattle.std.proofs.lemmas.List.{length-map}
 use Rattle.std.proofs.lemmas.Option.{slice_get_within}
 use Rattle.rsml_syntax.specs.declared.world.World.{World}
@@ -12,12 +14,11 @@ use Rattle.rsml_ground.specs.Rests.{CaseFits, DefinitionFits}
 use Rattle.rsml_ground.specs.declared.definitions.Definition.{Definition}
 use Rattle.rsml_ground.specs.declared.definitions.Definition.TheVariants as definition
 use Rattle.rsml_ground.specs.declared.phrases.GroundPhrase.{GroundPhrase}
-use Rattle.rsml_ground.specs.Truths.{Grounded, case_values, first_value, function_values, guard_truth, phrase_truth, sum_number, truths_in}
+use Rattle.rsml_ground.specs.Truths.{Grounded, case_values, function_values, phrase_truth, truths_in}
 use Rattle.rsml_ground.specs.Grounded.{IsGrounded}
 use Rattle.rsml_ground.proofs.PhraseLemmas.{truths_are_of_phrases}
 use Rattle.macros.specs.Guards.{guards_of}
 use Rattle.macros.proofs.Below.{IsBelow, each_all, each_so}
-use Rattle.macros.proofs.Values.{values_true}
 
 -- the truth of the phrase of a number, of its form
 pub truth_is : (g : Grounded) (w : World) (k : ℕ) (p q : GroundPhrase) → IsGrounded g → slice_get g.phrases k ≡ Some p → p ≡ q → phrase_truth g w (truths_in g w) q ≡ known (truths_in g w) k
@@ -48,9 +49,37 @@ cases_fit cells n d list cases fits is same =
 pub has_guard : (gs : List GroundGuard) (cs : List GroundCase) (i : ℕ) → gs ≡ map (λ c. c.guard) cs → i < length cs → i < length gs
 has_guard gs cs i all within = subst (λ (xs : List GroundGuard). i < length xs) (sym all) (let h : i < length (map (λ c. c.guard) cs) = omega (arith, within, length-map cs (λ c. c.guard)) in h)
 
--- the value of the first case with a true guard
-pub first_true : (cells : List ℤ) (ts : List Bool) (cs : List GroundCase) (gs : List GroundGuard) (i : ℕ) (g : GroundGuard) (c : GroundCase) → gs ≡ map (λ c. c.guard) cs
-    → i < length cs → g ≡ get_or gs i g → c ≡ get_or cs i c → guard_truth ts g ≡ true
-    → case_values cells ts (drop i cs) ≡ case_values cells ts cs
-    → sum_number cells c.value ≡ first_value (case_values cells ts cs)
-first_true cells ts cs gs i g c all h is at holds rest = ap first_value (sym (values_true cells ts cs gs i g c all h is at holds) ∙ rest)
+-- What the first item with a truth settles.
+
+abbrev pub settled : {A : Type 0} → Bool → (A → Bool) → List A → Bool
+settled settles p xs = if settles then list_any p xs else list_all p xs
+
+pub none_settles : {A : Type 0} (settles : Bool) (p : A → Bool) → settled settles p [] ≡ not settles
+none_settles true p = refl
+none_settles false p = refl
+
+pub none_yet : {A : Type 0} (settles : Bool) (p : A → Bool) (xs : List A) (i : ℕ) (d : A) → i < length xs → beq (p (get_or xs i d)) settles ≡ false
+    → settled settles p (take i xs) ≡ not settles → settled settles p (take (i + 1) xs) ≡ not settles
+none_yet true p xs i d within not_it before = list_any_more p xs i d within ∙ ap (λ b. b || p (get_or xs i d)) before ∙ is_false (p (get_or xs i d)) not_it
+  where
+    is_false : (b : Bool) → beq b true ≡ false → b ≡ false
+    is_false false e = refl
+    is_false true e = e
+none_yet false p xs i d within not_it before = list_all_more p xs i d within ∙ ap (λ b. b && p (get_or xs i d)) before ∙ is_true (p (get_or xs i d)) not_it
+  where
+    is_true : (b : Bool) → beq b false ≡ false → b ≡ true
+    is_true true e = refl
+    is_true false e = sym e
+
+pub this_settles : {A : Type 0} (settles : Bool) (p : A → Bool) (xs : List A) (i : ℕ) (d : A) → i < length xs → beq (p (get_or xs i d)) settles ≡ true
+    → settled settles p xs ≡ settles
+this_settles true p xs i d within is = list_any_at p xs i d within (is_true (p (get_or xs i d)) is)
+  where
+    is_true : (b : Bool) → beq b true ≡ true → b ≡ true
+    is_true true e = refl
+    is_true false e = e
+this_settles false p xs i d within is = list_all_at p xs i d within (is_false (p (get_or xs i d)) is)
+  where
+    is_false : (b : Bool) → beq b false ≡ true → b ≡ false
+    is_false false e = refl
+    is_false true e = sym e

@@ -130,13 +130,16 @@ there [] i within = absurd (omega (arith, within))
 there (x ∷ xs) zero within = (x, refl)
 there (x ∷ xs) (suc i) within = there xs i (omega (arith, within))
 
+-- each definition that there is rests on all phrases
+pub defined : (g : Grounded) → IsGrounded g → (number : ℕ) → number < length g.definitions → IsDefined g.definitions (length (cells g.spec)) (length g.phrases) number
+defined g is number within = let d = there g.definitions number within in (d.0, d.1, is.rest.definition number d.0 d.1)
+
 -- the guards of a definition name phrases that there are
 pub guards_within : (g : Grounded) → IsGrounded g → (number : ℕ) (gs : List GroundGuard) → number < length g.definitions
     → ((d : Definition) → slice_get g.definitions number ≡ Some d → gs ≡ guards_of d)
     → All (λ x. All (λ k. k < length g.phrases) (phrases_of x)) gs
 guards_within g is number gs within all =
-    let d = there g.definitions number within in
-    guards_below g.definitions (length (cells g.spec)) (length g.phrases) number gs (d.0, d.1, is.rest.definition number d.0 d.1) all
+    guards_below g.definitions (length (cells g.spec)) (length g.phrases) number gs (defined g is number within) all
 
 -- the guards of a definition are at its number
 pub table_at : (ds : List Definition) (tables : List (List GroundGuard)) (number : ℕ) (d : Definition) (x : List GroundGuard) → tables ≡ map guards_of ds

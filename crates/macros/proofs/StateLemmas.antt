@@ -1,8 +1,10 @@
 -- Phrases about states alone.
-use Rattle.std.proofs.Common.{◌≡◌, ℕ, ◌<◌, Bool, true, List, All, map, length, get_or, Option, Some, None, IfSome, Result, Ok, Err, IfOk, sym, ap, ◌∙◌, subst, slice_get, arith}
-use Rattle.std.specs.List.{list_any}
+use Rattle.std.proofs.Common.{◌≡◌, ℕ, zero, suc, ◌<◌, Bool, true, ◌&&◌, List, [], ◌∷◌, All, map, flat_map, length, get_or, Option, Some, None, IfSome, Result, Ok, Err, IfOk, refl, sym, ap, ◌∙◌, subst, slice_get, arith}
+use Rattle.std.specs.List.{list_any, list_all}
 use Rattle.std.proofs.lemmas.List.{length-map, get_or-map}
-use Rattle.std.proofs.lemmas.List.Folds.{list_any_at}
+use Rattle.std.proofs.Math.Bool.{or-false}
+use Rattle.std.proofs.lemmas.List.Elements.{All-append}
+use Rattle.std.proofs.lemmas.List.Folds.{list_any_at, list_all-append}
 use Rattle.rsml_syntax.specs.declared.world.World.{World}
 use Rattle.rsml_meaning.specs.Worlds.{IsWorld}
 use Rattle.and_or_tables.specs.Ground.{known}
@@ -45,3 +47,27 @@ pub some_of_one : {A B : Type 0} (p : B → Bool) (f : A → B) (xs : List A) (i
     → true ≡ list_any p (map f xs)
 some_of_one p f xs i x within is passed =
     sym (list_any_at p (map f xs) i (f x) (let same = length-map xs f in omega (arith, within, same)) (ap p (get_or-map f xs i x (f x) within ∙ sym (ap f is)) ∙ passed))
+
+-- all items of lists pass where those of each do
+pub all_of_lists : {A B : Type 0} (p : B → Bool) (f : A → List B) (xs : List A) → list_all p (flat_map f xs) ≡ list_all (list_all p) (map f xs)
+all_of_lists p f [] = refl
+all_of_lists p f (x ∷ xs) = list_all-append p (f x) (flat_map f xs) ∙ ap (λ b. list_all p (f x) && b) (all_of_lists p f xs)
+
+-- what holds of the items of each list holds of all their items
+pub of_lists : {A B : Type 0} (P : B → Type 0) (f : A → List B) (xs : List A) → All (All P) (map f xs) → All P (flat_map f xs)
+of_lists P f [] all = λ i d within. absurd (omega (arith, within))
+of_lists P f (x ∷ xs) all = All-append P (f x) (flat_map f xs) (all 0 (f x) (omega arith)) (of_lists P f xs (λ i d within. all (suc i) d (omega (arith, within))))
+
+-- the one list of all items
+pub joined_fits : {A B : Type 0} (P : B → Type 0) (f : A → List B) (xs ys : List A) (one : List (List B)) → one ≡ flat_map f ys ∷ [] → ys ≡ xs → All (All P) (map f xs) → All (All P) one
+joined_fits {B = B} P f xs ys one is same all =
+    subst (λ ls. All (All P) ls) (sym is) (alone (flat_map f ys) (of_lists P f ys (subst (λ zs. All (All P) (map f zs)) (sym same) all)))
+  where
+    alone : (zs : List B) → All P zs → All (All P) (zs ∷ [])
+    alone zs h zero d within = h
+    alone zs h (suc i) d within = absurd (omega (arith, within))
+
+pub joined_right : {A B : Type 0} (p : B → Bool) (f : A → List B) (xs ys : List A) (one : List (List B)) (truth : Bool) → one ≡ flat_map f ys ∷ [] → ys ≡ xs
+    → list_all (list_all p) (map f xs) ≡ truth → list_any (list_all p) one ≡ truth
+joined_right p f xs ys one truth is same all =
+    ap (list_any (list_all p)) is ∙ or-false (list_all p (flat_map f ys)) ∙ all_of_lists p f ys ∙ ap (λ zs. list_all (list_all p) (map f zs)) same ∙ all

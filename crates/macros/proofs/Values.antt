@@ -1,15 +1,16 @@
 -- Sums and the values of cases, item by item.
-use Rattle.std.proofs.Common.{◌≡◌, ℕ, zero, suc, ◌+◌, ◌<◌, Bool, true, false, ◌||◌, List, [], ◌∷◌, ◌++◌, length, get_or, drop, map, fold, if◌then◌else◌, ℤ, ◌+ℤ◌, refl, sym, ap, ◌∙◌, subst, arith, add-one, drop-cons}
-use Rattle.std.specs.List.{All, list_any}
-use Rattle.rsml_syntax.specs.declared.syntax.Relation.{Relation}
-use Rattle.rsml_syntax.specs.rules.Relations.{compare}
+use Rattle.std.proofs.Common.{◌≡◌, ℕ, zero, suc, ◌+◌, ◌<◌, Bool, true, false, cond, ◌||◌, List, [], ◌∷◌, ◌++◌, length, get_or, drop, map, fold, Some, if◌then◌else◌, ℤ, ◌+ℤ◌, pos, refl, sym, ap, ◌∙◌, subst, arith, add-one, drop-cons}
+use Rattle.std.specs.List.{All, find, list_any}
+use Rattle.std.specs.Option.{is_some, unwrap_or}
 use Rattle.rsml_ground.specs.declared.sums.GroundTerm.{GroundTerm}
 use Rattle.rsml_ground.specs.declared.definitions.GroundGuard.{GroundGuard}
 use Rattle.rsml_ground.specs.declared.definitions.GroundGuard.TheVariants as guards
 use Rattle.rsml_ground.specs.declared.definitions.GroundCase.{GroundCase}
 use Rattle.rsml_ground.specs.Rests.{GuardFits, CaseFits}
 use Rattle.macros.specs.Guards.{GuardBelow}
-use Rattle.rsml_ground.specs.Truths.{sum_number, term_number, guard_truth, case_values}
+use Rattle.macros.specs.Sought.{is_sought}
+use Rattle.macros.specs.declared.sought.Sought.TheVariants as sought
+use Rattle.rsml_ground.specs.Truths.{sum_number, term_number, guard_truth, case_values, first_value}
 
 -- one more term
 pub sum_more : (cells : List ℤ) (ts : List GroundTerm) (i : ℕ) (d : GroundTerm) (a b whole : ℤ) → i < length ts
@@ -67,24 +68,34 @@ passed cells ts cs gs i g all h is fails =
     ap (λ k. case_values cells ts (drop k cs)) (add-one i)
     ∙ sym (values_false cells ts cs i g h (ap (guard_truth ts) (sym (is ∙ ap (λ (xs : List GroundGuard). get_or xs i g) all)) ∙ fails))
 
--- a value that does not stand in the relation is passed
-pub not_this : (relation : Relation) (n : ℤ) (cells : List ℤ) (ts : List Bool) (cs : List GroundCase) (gs : List GroundGuard) (i : ℕ) (g : GroundGuard) (c : GroundCase)
-    → gs ≡ map (λ c. c.guard) cs → i < length cs → g ≡ get_or gs i g → c ≡ get_or cs i c → guard_truth ts g ≡ true
-    → compare relation (sum_number cells c.value) n ≡ false
-    → list_any (λ x. compare relation x n) (case_values cells ts (drop (i + 1) cs)) ≡ list_any (λ x. compare relation x n) (case_values cells ts (drop i cs))
-not_this relation n cells ts cs gs i g c all h is at holds fails =
-    sym (ap (λ b. b || list_any (λ x. compare relation x n) (case_values cells ts (drop (i + 1) cs))) fails)
-    ∙ ap (list_any (λ x. compare relation x n)) (sym (values_true cells ts cs gs i g c all h is at holds))
+-- at a case whose guard is true its value is found where it is sought, and else passed
+at_true : (sought : ℤ → Bool) (cells : List ℤ) (ts : List Bool) (cs : List GroundCase) (gs : List GroundGuard) (i : ℕ) (g : GroundGuard) (c : GroundCase) (b : Bool)
+    → gs ≡ map (λ c. c.guard) cs → i < length cs → g ≡ get_or gs i g → c ≡ get_or cs i c → guard_truth ts g ≡ true → sought (sum_number cells c.value) ≡ b
+    → find sought (case_values cells ts (drop i cs)) ≡ cond b (Some (sum_number cells c.value)) (find sought (case_values cells ts (drop (i + 1) cs)))
+at_true sought cells ts cs gs i g c b all h is at holds asked =
+    ap (find sought) (values_true cells ts cs gs i g c all h is at holds)
+    ∙ ap (λ b. cond b (Some (sum_number cells c.value)) (find sought (case_values cells ts (drop (i + 1) cs)))) asked
 
-pub this_one : (relation : Relation) (n : ℤ) (cells : List ℤ) (ts : List Bool) (cs : List GroundCase) (gs : List GroundGuard) (i : ℕ) (g : GroundGuard) (c : GroundCase)
-    → gs ≡ map (λ c. c.guard) cs → i < length cs → g ≡ get_or gs i g → c ≡ get_or cs i c → guard_truth ts g ≡ true
-    → compare relation (sum_number cells c.value) n ≡ true
-    → true ≡ list_any (λ x. compare relation x n) (case_values cells ts (drop i cs))
-this_one relation n cells ts cs gs i g c all h is at holds stands =
-    sym (ap (λ b. b || list_any (λ x. compare relation x n) (case_values cells ts (drop (i + 1) cs))) stands)
-    ∙ ap (list_any (λ x. compare relation x n)) (sym (values_true cells ts cs gs i g c all h is at holds))
+pub this_one : (sought : ℤ → Bool) (cells : List ℤ) (ts : List Bool) (cs : List GroundCase) (gs : List GroundGuard) (i : ℕ) (g : GroundGuard) (c : GroundCase)
+    → gs ≡ map (λ c. c.guard) cs → i < length cs → g ≡ get_or gs i g → c ≡ get_or cs i c → guard_truth ts g ≡ true → sought (sum_number cells c.value) ≡ true
+    → Some (sum_number cells c.value) ≡ find sought (case_values cells ts (drop i cs))
+this_one sought cells ts cs gs i g c all h is at holds asked = sym (at_true sought cells ts cs gs i g c true all h is at holds asked)
 
-pub none_here : (relation : Relation) (n : ℤ) (cells : List ℤ) (ts : List Bool) (cs : List GroundCase) (gs : List GroundGuard) (i : ℕ) (g : GroundGuard)
-    → gs ≡ map (λ c. c.guard) cs → i < length cs → g ≡ get_or gs i g → guard_truth ts g ≡ false
-    → list_any (λ x. compare relation x n) (case_values cells ts (drop (i + 1) cs)) ≡ list_any (λ x. compare relation x n) (case_values cells ts (drop i cs))
-none_here relation n cells ts cs gs i g all h is fails = ap (list_any (λ x. compare relation x n)) (passed cells ts cs gs i g all h is fails)
+pub not_this : (sought : ℤ → Bool) (cells : List ℤ) (ts : List Bool) (cs : List GroundCase) (gs : List GroundGuard) (i : ℕ) (g : GroundGuard) (c : GroundCase)
+    → gs ≡ map (λ c. c.guard) cs → i < length cs → g ≡ get_or gs i g → c ≡ get_or cs i c → guard_truth ts g ≡ true → sought (sum_number cells c.value) ≡ false
+    → find sought (case_values cells ts (drop (i + 1) cs)) ≡ find sought (case_values cells ts (drop i cs))
+not_this sought cells ts cs gs i g c all h is at holds asked = sym (at_true sought cells ts cs gs i g c false all h is at holds asked)
+
+-- a value is found where one is sought
+pub some_found : (sought : ℤ → Bool) (ns : List ℤ) → is_some (find sought ns) ≡ list_any sought ns
+some_found sought [] = refl
+some_found sought (n ∷ ns) = by (some_found sought ns) (sought n)
+  where
+    by : is_some (find sought ns) ≡ list_any sought ns → (b : Bool) → is_some (cond b (Some n) (find sought ns)) ≡ (b || list_any sought ns)
+    by rest true = refl
+    by rest false = rest
+
+-- where any value is sought the first is found
+pub first_found : (ns : List ℤ) → unwrap_or (find (is_sought sought.Any) ns) (pos 0) ≡ first_value ns
+first_found [] = refl
+first_found (n ∷ ns) = refl

@@ -1,6 +1,5 @@
-ghost use Rattle.std.specs.Prelude.{◌≡◌, ◌<◌, ◌≤◌, All, Some, length, slice_get};
+ghost use Rattle.std.specs.Prelude.{◌≡◌, ◌<◌, ◌≤◌, All, Some, find, if◌then◌else◌, length, slice_get};
 ghost use Rattle.std.specs.List.{list_any, list_all};
-ghost use Rattle.rsml_syntax.specs.rules.Relations as relations;
 ghost use Rattle.and_or_tables.specs.Ground.{known};
 ghost use Rattle.rsml_meaning.specs.Cells.{cells};
 ghost use Rattle.rsml_meaning.specs.Worlds.{IsWorld};
@@ -8,13 +7,14 @@ ghost use Rattle.rsml_ground.specs.Rests.{RestsOn};
 ghost use Rattle.rsml_ground.specs.Truths.{function_values, guard_truth, macro_truth, truths_in, value_in};
 ghost use Rattle.macros.specs.Guards.{GuardBelow};
 ghost use Rattle.macros.specs.Known.{AreKnown, IsKnown, Knows, StillKnown};
+ghost use Rattle.macros.specs.Sought.{is_sought};
 
 use crate::guards::FastGuard;
 use crate::macros::Macros;
 use crate::memo::Memo;
-use crate::relation::compare;
+use crate::sought::Sought;
 use rsml_ground::{Definition, GroundPhrase};
-use rsml_syntax::{Relation, World};
+use rsml_syntax::World;
 use state_tree::Tree;
 
 /// How many phrases are asked inside one another before all lower ones are worked out in order.
@@ -94,78 +94,54 @@ impl<'a> Macros<'a> {
                 self.truth_by(tree, world, memo, number, phrase)
             }
             GroundPhrase::Any(numbers) => {
-                self.ask_some(tree, world, memo, numbers.as_slice(), depth - 1)
+                self.ask_settled(tree, world, memo, numbers.as_slice(), true, depth - 1)
             }
             GroundPhrase::Every(numbers) => {
-                self.ask_every(tree, world, memo, numbers.as_slice(), depth - 1)
+                self.ask_settled(tree, world, memo, numbers.as_slice(), false, depth - 1)
             }
             GroundPhrase::Macro(table) => self.ask_macro(tree, world, memo, *table, depth - 1),
             GroundPhrase::Function {
                 function,
                 relation,
                 constant,
-            } => self.ask_function(
-                tree,
-                world,
-                memo,
-                *function,
-                *relation,
-                *constant,
-                depth - 1,
-            ),
+            } => {
+                let sought = Sought::Compared {
+                    relation: *relation,
+                    constant: *constant,
+                };
+                self.ask_function(tree, world, memo, *function, sought, depth - 1)
+                    .is_some()
+            }
         }
     }
 
-    /// Whether some of these phrases is true. Those after the first true one are not asked.
+    /// What phrases come to that the first with this truth settles: this truth, or the other where none has it. Those after the
+    /// first are not asked.
     #[cycle(ask)]
-    fn ask_some(
+    fn ask_settled(
         &self,
         tree: &Tree<'_>,
         world: &World,
         memo: &mut Memo,
         numbers: &[u32],
+        settles: bool,
         depth: u32,
     ) -> bool
         requires tree { tree.now ≡ self.now.spec }
         requires world { IsWorld self.now.spec world.now }
         requires knows { Knows self.now world.now memo.old }
         requires numbers { All (λ k. k < length self.now.phrases) numbers.now }
-        ensures truth { result ≡ list_any (known (truths_in self.now world.now)) numbers.now }
+        ensures truth { result ≡ (if settles then list_any (known (truths_in self.now world.now)) numbers.now
+            else list_all (known (truths_in self.now world.now)) numbers.now) }
         ensures knows { Knows self.now world.now memo.new }
         ensures kept { StillKnown memo.old memo.new }
     {
         for number in numbers {
-            if self.ask_within(tree, world, memo, *number, depth) {
-                return true;
+            if self.ask_within(tree, world, memo, *number, depth) == settles {
+                return settles;
             }
         }
-        false
-    }
-
-    /// Whether each of these phrases is true. Those after the first false one are not asked.
-    #[cycle(ask)]
-    fn ask_every(
-        &self,
-        tree: &Tree<'_>,
-        world: &World,
-        memo: &mut Memo,
-        numbers: &[u32],
-        depth: u32,
-    ) -> bool
-        requires tree { tree.now ≡ self.now.spec }
-        requires world { IsWorld self.now.spec world.now }
-        requires knows { Knows self.now world.now memo.old }
-        requires numbers { All (λ k. k < length self.now.phrases) numbers.now }
-        ensures truth { result ≡ list_all (known (truths_in self.now world.now)) numbers.now }
-        ensures knows { Knows self.now world.now memo.new }
-        ensures kept { StillKnown memo.old memo.new }
-    {
-        for number in numbers {
-            if !self.ask_within(tree, world, memo, *number, depth) {
-                return false;
-            }
-        }
-        true
+        !settles
     }
 
     /// The truth of a macro's table. A function has none.
@@ -194,8 +170,7 @@ impl<'a> Macros<'a> {
         }
     }
 
-    /// Whether some case of a function has a true guard and a value that stands in the relation to the constant. Cases after
-    /// the first such are not asked. A macro has no cases.
+    /// The first value of a function that is sought, of its cases with a true guard. Cases after it are not asked. A macro has none.
     #[cycle(ask)]
     fn ask_function(
         &self,
@@ -203,32 +178,32 @@ impl<'a> Macros<'a> {
         world: &World,
         memo: &mut Memo,
         function: u32,
-        relation: Relation,
-        constant: i64,
+        sought: Sought,
         depth: u32,
-    ) -> bool
+    ) -> Option<i64>
         requires tree { tree.now ≡ self.now.spec }
         requires world { IsWorld self.now.spec world.now }
         requires knows { Knows self.now world.now memo.old }
         requires function { function < length self.now.definitions }
-        ensures truth { result ≡ list_any (λ x. relations.compare relation x constant)
+        ensures value { result ≡ find (is_sought sought)
             (function_values world.now.cells (truths_in self.now world.now) (slice_get self.now.definitions function)) }
         ensures knows { Knows self.now world.now memo.new }
         ensures kept { StillKnown memo.old memo.new }
     {
         let Definition::Function(list) = self.definition(function) else {
-            return false;
+            return None;
         };
         let cases = list.as_slice();
         let guards = self.guards(function);
         for place in 0..cases.len() {
-            if self.ask_guard_within(tree, world, memo, &guards[place], depth)
-                && compare(relation, self.case_value(world, &cases[place]), constant)
-            {
-                return true;
+            if self.ask_guard_within(tree, world, memo, &guards[place], depth) {
+                let value = self.number(world, &cases[place].value);
+                if sought.takes(value) {
+                    return Some(value);
+                }
             }
         }
-        false
+        None
     }
 
     /// The truth of a guard.
@@ -333,16 +308,7 @@ impl<'a> Macros<'a> {
         ensures knows { Knows self.now world.now memo.new }
         ensures kept { StillKnown memo.old memo.new }
     {
-        let Definition::Function(list) = self.definition(function) else {
-            return 0;
-        };
-        let cases = list.as_slice();
-        let guards = self.guards(function);
-        for place in 0..cases.len() {
-            if self.ask_guard(tree, world, memo, &guards[place]) {
-                return self.case_value(world, &cases[place]);
-            }
-        }
-        0
+        self.ask_function(tree, world, memo, function, Sought::Any, DEPTH)
+            .unwrap_or(0)
     }
 }

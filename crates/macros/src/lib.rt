@@ -13,6 +13,7 @@ mod memo;
 mod pairs;
 mod phrases;
 mod relation;
+mod sought;
 mod state_phrases;
 mod sums;
 

@@ -1,4 +1,4 @@
-ghost use Rattle.std.specs.Prelude.{◌≡◌, ◌<◌, ℕ, All, IfOk, Some, length, slice_get};
+ghost use Rattle.std.specs.Prelude.{◌≡◌, ◌<◌, ℕ, All, IfOk, Some, find, length, slice_get};
 ghost use Rattle.rsml_syntax.specs.declared.syntax.Phrase.{Phrase};
 ghost use Rattle.rsml_syntax.specs.limits.Comparisons.{Indices};
 ghost use Rattle.rsml_meaning.specs.Interfaces.{FunctionInstance, function_cases, definitions as instances};
@@ -13,26 +13,26 @@ ghost use Rattle.macros.specs.Known.{IsKnown, Knows};
 ghost use Rattle.macros.specs.Named.{Named};
 ghost use Rattle.rsml_syntax.specs.rules.Relations as relations;
 ghost use Rattle.rsml_ground.specs.declared.definitions.Definition.{Definition as DefinitionValue};
-ghost use Rattle.std.specs.List.{list_any};
 ghost use Rattle.macros.specs.Guards.{guards_of, phrases_of};
 ghost use Rattle.rsml_ground.specs.Truths as spec;
 ghost use Rattle.rsml_ground.specs.Truths.{truths_in, value_in};
 ghost use Rattle.macros.specs.Tables.{with_parts};
+ghost use Rattle.macros.specs.Sought.{is_sought};
 
 use crate::activity::is_active;
-use crate::cases::{first_value, some_value};
+use crate::cases::found_value;
 use crate::fast::tables_of;
 use crate::guards::FastGuard;
 use crate::memo::Memo;
 use crate::pairs::{Pair, pairs_of};
 use crate::phrases::{each_true, some_true};
 use crate::relation::compare;
+use crate::sought::Sought;
 use crate::sums::{sum_number, term_number};
 use and_or_tables::Truths;
 use phrase_builder::Lookup;
 use rsml_ground::{
-    Definition, GroundCase, GroundPhrase, GroundSum, Phrases, functions_mean_the_text,
-    phrases_mean_the_text,
+    Definition, GroundPhrase, GroundSum, Phrases, functions_mean_the_text, phrases_mean_the_text,
 };
 use rsml_syntax::{Checked, List, NoMemory, Relation, Spec, World};
 use state_arrays::Names;
@@ -208,7 +208,14 @@ impl<'a> Macros<'a> {
                 function,
                 relation,
                 constant,
-            } => self.function_truth(world, truths, *function, *relation, *constant),
+            } => {
+                let sought = Sought::Compared {
+                    relation: *relation,
+                    constant: *constant,
+                };
+                self.function_value(world, truths, *function, sought)
+                    .is_some()
+            }
         }
     }
 
@@ -313,59 +320,28 @@ impl<'a> Macros<'a> {
         }
     }
 
-    /// Whether some value of a function stands in the relation to the constant. A macro has no values.
-    fn function_truth(
+    /// The first value of a function that is sought, of its cases with a true guard. A macro has none.
+    fn function_value(
         &self,
         world: &World,
         truths: &Truths,
         number: u32,
-        relation: Relation,
-        constant: i64,
-    ) -> bool
+        sought: Sought,
+    ) -> Option<i64>
         requires world { IsWorld self.now.spec world.now }
         requires defined { IsDefined self.now.definitions
             (length (cells self.now.spec)) (length truths.now) number }
-        ensures { result ≡ list_any (λ x. relations.compare relation x constant)
+        ensures { result ≡ find (is_sought sought)
             (spec.function_values world.now.cells truths.now (slice_get self.now.definitions number)) }
     {
         match self.definition(number) {
-            Definition::Macro(_) => false,
-            Definition::Function(cases) => some_value(
+            Definition::Macro(_) => None,
+            Definition::Function(cases) => found_value(
                 self.cells(world),
                 truths,
                 cases.as_slice(),
                 self.guards(number),
-                relation,
-                constant,
-            ),
-        }
-    }
-
-    /// The value of a case.
-    pub(crate) fn case_value(&self, world: &World, case: &GroundCase) -> i64
-        requires world { IsWorld self.now.spec world.now }
-        requires fits { SumFits (length (cells self.now.spec)) case.now.value }
-        ensures { result ≡ spec.sum_number world.now.cells case.now.value }
-    {
-        sum_number(self.cells(world), &case.value)
-    }
-
-    /// The value of a function by these truths: that of its first case with a true guard, 0 where there is none. A macro has
-    /// no value.
-    fn function_value(&self, world: &World, truths: &Truths, number: u32) -> i64
-        requires world { IsWorld self.now.spec world.now }
-        requires number { number < length self.now.definitions }
-        requires truths { length truths.now ≡ length self.now.phrases }
-        ensures { result ≡ spec.first_value
-            (spec.function_values world.now.cells truths.now (slice_get self.now.definitions number)) }
-    {
-        match self.definition(number) {
-            Definition::Macro(_) => 0,
-            Definition::Function(cases) => first_value(
-                self.cells(world),
-                truths,
-                cases.as_slice(),
-                self.guards(number),
+                sought,
             ),
         }
     }
@@ -400,6 +376,7 @@ impl<'a> Macros<'a> {
     {
         functions_mean_the_text();
         let _ = &self.tables;
-        self.function_value(world, truths, function)
+        self.function_value(world, truths, function, Sought::Any)
+            .unwrap_or(0)
     }
 }

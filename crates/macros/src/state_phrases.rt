@@ -1,4 +1,4 @@
-ghost use Rattle.std.specs.Prelude.{◌≡◌, ◌<◌, ◌++◌, ◌∷◌, [], All, IfOk, IfSome, OnOk, length, map};
+ghost use Rattle.std.specs.Prelude.{◌≡◌, ◌<◌, ◌∷◌, [], All, IfOk, IfSome, flat_map, length, map};
 ghost use Rattle.std.specs.List.{list_all, list_any};
 ghost use Rattle.rsml_syntax.specs.declared.world.World.{World};
 ghost use Rattle.rsml_meaning.specs.Instances.{states};
@@ -67,17 +67,8 @@ fn way(
     Ok(Some(choices))
 }
 
-/// One way alone.
-fn only(alloc: Global, way: Vec<Choice>) -> Result<Vec<Vec<Choice>>, NoMemory>
-    ensures { IfOk result (λ ways. map (λ c. c.items) ways.items ≡ way.items ∷ []) }
-{
-    let mut ways = Vec::with_capacity(alloc, 1)?;
-    ways.push(way)?;
-    Ok(ways)
-}
-
-/// The ways in which some of these phrases is true, one for each. None where one of them says no state to be active.
-fn ways_to_some(
+/// A way for each of these phrases. None where one of them says no state to be active.
+fn each_way(
     alloc: Global,
     macros: &Macros<'_>,
     tree: &Tree<'_>,
@@ -87,8 +78,10 @@ fn ways_to_some(
     requires numbers { All (λ k. k < length macros.now.phrases) numbers.now }
     ensures components { IfOk result (λ found. IfSome found (λ ways.
         All (AreOfComponents macros.now.spec) (map (λ c. c.items) ways.items))) }
-    ensures right { IfOk result (λ found. IfSome found (λ ways. (w : World) → IsWorld macros.now.spec w
+    ensures some { IfOk result (λ found. IfSome found (λ ways. (w : World) → IsWorld macros.now.spec w
         → some_chosen w.choices (map (λ c. c.items) ways.items) ≡ list_any (known (truths_in macros.now w)) numbers.now)) }
+    ensures every { IfOk result (λ found. IfSome found (λ ways. (w : World) → IsWorld macros.now.spec w
+        → list_all (are_chosen w.choices) (map (λ c. c.items) ways.items) ≡ list_all (known (truths_in macros.now w)) numbers.now)) }
 {
     let mut ways = Vec::with_capacity(alloc, numbers.len())?;
     for number in numbers {
@@ -100,60 +93,21 @@ fn ways_to_some(
     Ok(Some(ways))
 }
 
-/// Puts choices behind others.
-fn put_all(choices: &mut Vec<Choice>, more: &[Choice]) -> Result<(), NoMemory>
-    ensures { OnOk result (choices.new.items ≡ choices.old.items ++ more.now) }
-{
-    for choice in more {
-        choices.push(*choice)?;
-    }
-    Ok(())
-}
-
-/// The choices with which each of these phrases is true. None where one of them says no state to be active.
-fn way_to_every(
-    alloc: Global,
-    macros: &Macros<'_>,
-    tree: &Tree<'_>,
-    numbers: &[u32],
-) -> Result<Option<Vec<Choice>>, NoMemory>
-    requires tree { tree.now ≡ macros.now.spec }
-    requires numbers { All (λ k. k < length macros.now.phrases) numbers.now }
-    ensures components { IfOk result (λ found. IfSome found (λ choices.
-        AreOfComponents macros.now.spec choices.items)) }
-    ensures right { IfOk result (λ found. IfSome found (λ choices. (w : World) → IsWorld macros.now.spec w
-        → are_chosen w.choices choices.items ≡ list_all (known (truths_in macros.now w)) numbers.now)) }
+/// The choices of all these ways, as one way alone.
+fn joined(alloc: Global, ways: &[Vec<Choice>]) -> Result<Vec<Vec<Choice>>, NoMemory>
+    ensures { IfOk result (λ one. map (λ c. c.items) one.items ≡ flat_map (λ c. c.items) ways.now ∷ []) }
 {
     let mut choices = Vec::new(alloc);
-    for number in numbers {
-        let Some(one) = way(alloc, macros, tree, *number)? else {
-            return Ok(None);
-        };
-        put_all(&mut choices, one.as_slice())?;
+    for way in ways {
+        choices.extend_from_slice(way.as_slice())?;
     }
-    Ok(Some(choices))
-}
-
-/// The one way in which a phrase is true that says a state to be active. None for another.
-fn ways_of_state(
-    alloc: Global,
-    macros: &Macros<'_>,
-    tree: &Tree<'_>,
-    phrase: u32,
-) -> Result<Option<Vec<Vec<Choice>>>, NoMemory>
-    requires tree { tree.now ≡ macros.now.spec }
-    requires phrase { phrase < length macros.now.phrases }
-    ensures { IfOk result (λ found. IfSome found (λ ways. AreWays macros.now phrase (map (λ c. c.items) ways.items))) }
-{
-    let Some(one) = way(alloc, macros, tree, phrase)? else {
-        return Ok(None);
-    };
-    let ways = only(alloc, one)?;
-    Ok(Some(ways))
+    let mut one = Vec::with_capacity(alloc, 1)?;
+    one.push(choices)?;
+    Ok(one)
 }
 
 /// The one way in which each of these phrases is true. None where one of them says no state to be active.
-fn ways_to_every(
+fn way_to_every(
     alloc: Global,
     macros: &Macros<'_>,
     tree: &Tree<'_>,
@@ -166,11 +120,11 @@ fn ways_to_every(
     ensures right { IfOk result (λ found. IfSome found (λ ways. (w : World) → IsWorld macros.now.spec w
         → some_chosen w.choices (map (λ c. c.items) ways.items) ≡ list_all (known (truths_in macros.now w)) numbers.now)) }
 {
-    let Some(one) = way_to_every(alloc, macros, tree, numbers)? else {
+    let Some(ways) = each_way(alloc, macros, tree, numbers)? else {
         return Ok(None);
     };
-    let ways = only(alloc, one)?;
-    Ok(Some(ways))
+    let one = joined(alloc, ways.as_slice())?;
+    Ok(Some(one))
 }
 
 /// The ways in which a phrase is true that is about states alone. None for another.
@@ -186,9 +140,9 @@ fn ways(
 {
     let _ = macros.spec();
     match macros.phrase(phrase) {
-        GroundPhrase::In(_) => ways_of_state(alloc, macros, tree, phrase),
-        GroundPhrase::Any(numbers) => ways_to_some(alloc, macros, tree, numbers.as_slice()),
-        GroundPhrase::Every(numbers) => ways_to_every(alloc, macros, tree, numbers.as_slice()),
+        GroundPhrase::In(_) => each_way(alloc, macros, tree, &[phrase]),
+        GroundPhrase::Any(numbers) => each_way(alloc, macros, tree, numbers.as_slice()),
+        GroundPhrase::Every(numbers) => way_to_every(alloc, macros, tree, numbers.as_slice()),
         _ => Ok(None),
     }
 }

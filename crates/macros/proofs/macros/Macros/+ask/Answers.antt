@@ -1,8 +1,8 @@
-use Rattle.std.proofs.Common.{◌≡◌, ◌<◌, ◌∷◌, [], sym, ap, ◌∙◌, subst, length, get_or, Some, List, ℕ, ℤ, ◌||◌, ◌&&◌, slice_get, arith, rules, w64, to_z, of_z, FitsSigned}
-use Rattle.std.specs.List.{All, list_any, list_all}
+use Rattle.std.proofs.Common.{◌≡◌, ◌<◌, ◌∷◌, [], sym, ap, ◌∙◌, subst, length, get_or, Some, Option, List, ℕ, ℤ, slice_get, arith, rules, w64, FitsSigned}
+use Rattle.std.specs.List.{All, find, list_any, list_all}
+use Rattle.std.specs.Option.{is_some}
 use Rattle.std.proofs.lemmas.Int.{to_z-of_z}
 use Rattle.std.proofs.lemmas.List.{take_all}
-use Rattle.std.proofs.lemmas.List.Folds.{list_any_more, list_all_more}
 use Rattle.rsml_meaning.specs.Cells.{cells}
 use Rattle.and_or_tables.specs.Ground.{known}
 use Rattle.rsml_syntax.specs.rules.Relations.{compare}
@@ -12,15 +12,17 @@ use Rattle.rsml_ground.specs.declared.definitions.GroundGuard.TheVariants as gua
 use Rattle.rsml_ground.specs.declared.phrases.GroundPhrase.{GroundPhrase}
 use Rattle.rsml_ground.specs.declared.phrases.GroundPhrase.TheVariants as phrases
 use Rattle.rsml_ground.specs.Rests.{DefinitionFits, RestsOn}
-use Rattle.rsml_ground.specs.Truths.{case_values, function_values, guard_truth, macro_truth, truths_in}
+use Rattle.rsml_ground.specs.declared.definitions.GroundCase.{GroundCase}
+use Rattle.rsml_ground.specs.Truths.{function_values, guard_truth, macro_truth, sum_number, truths_in}
 use Rattle.macros.specs.Guards.{GuardBelow, guards_of}
 use Rattle.macros.specs.Known.{IsKnown}
+use Rattle.macros.specs.Sought.{is_sought}
 use Rattle.macros.proofs.Asking.{truth_is, numbers_within, values_of_cases, guards_of_cases, cases_fit, has_guard}
 use Rattle.macros.proofs.Below.{IsBelow, below_guard, defined_within, named_so, names_below}
 use Rattle.macros.proofs.Learning.{guard_asked, kept_on, numbers_more}
-use Rattle.macros.proofs.Values.{below_at, none_here, not_this, this_one}
+use Rattle.macros.proofs.Values.{below_at, not_this, passed, some_found, this_one}
 use Rattle.macros.proofs.macros.Macros.+ask.Goals as goal
-use Rattle.macros.proofs.macros.Macros.+ask.Goals.{ask_function-else-ask_guard_within-via-then-ask_guard_within+else-compare, ask_function-else-ask_guard_within-via-else-ask_guard_within}
+use Rattle.macros.proofs.macros.Macros.+ask.Goals.{ask_function-then-ask_guard_within+else-takes, ask_function-else-ask_guard_within}
 
 pub ask_each-loop-number-preserved : goal.ask_each-loop-number-preserved
 ask_each-loop-number-preserved t c = record {
@@ -54,30 +56,8 @@ ask_guard_within-returns-clause-truth t c =
     ∙ guard_asked c.args.self.now c.args.world.now c.ask_each.new.memo c.truths.result.now c.args.guard.now c.ask_each.ensures.knows c.truths.ensures.right
     (subst (λ (ks : List ℕ). All (IsKnown c.ask_each.new.memo) ks) c.phrases.ensures c.ask_each.ensures.learned)
 
-pub ask_some-loop-number-preserved : goal.ask_some-loop-number-preserved
-ask_some-loop-number-preserved t c =
-    let holds = known (truths_in c.args.self.now c.args.world.now) in
-    record {
-      knows = c.ask_within.ensures.knows;
-      kept = kept_on c.args.memo.now c.loop-number.memo c.ask_within.new.memo c.loop-number.invariant.kept c.ask_within.ensures.kept;
-      none = list_any_more holds c.args.numbers.now c.loop-number.number-index 0 c.loop-number-test.true
-          ∙ ap (λ b. b || holds (get_or c.args.numbers.now c.loop-number.number-index 0)) c.loop-number.invariant.none
-          ∙ sym c.ask_within.ensures.truth ∙ c.if-ask_within.false;
-    }
-
-pub ask_every-loop-number-preserved : goal.ask_every-loop-number-preserved
-ask_every-loop-number-preserved t c =
-    let holds = known (truths_in c.args.self.now c.args.world.now) in
-    record {
-      knows = c.ask_within.ensures.knows;
-      kept = kept_on c.args.memo.now c.loop-number.memo c.ask_within.new.memo c.loop-number.invariant.kept c.ask_within.ensures.kept;
-      all = list_all_more holds c.args.numbers.now c.loop-number.number-index 0 c.loop-number-test.true
-          ∙ ap (λ b. b && holds (get_or c.args.numbers.now c.loop-number.number-index 0)) c.loop-number.invariant.all
-          ∙ sym c.ask_within.ensures.truth ∙ c.if-not-ask_within.false;
-    }
-
-pub ask_phrase-ask_some-requires : goal.ask_phrase-ask_some-requires
-ask_phrase-ask_some-requires t c = (
+pub ask_phrase-ask_settled-requires : goal.ask_phrase-ask_settled-requires
+ask_phrase-ask_settled-requires t c = (
   omega (arith, c.decreases),
   (
     c.requires.tree,
@@ -95,11 +75,11 @@ ask_phrase-ask_some-requires t c = (
 
 pub ask_phrase-returns-in-Any-clause-truth : goal.ask_phrase-returns-in-Any-clause-truth
 ask_phrase-returns-in-Any-clause-truth t c =
-    c.ask_some.ensures.truth ∙ ap (list_any (known (truths_in c.args.self.now c.args.world.now))) c.as_slice.ensures
+    c.ask_settled.ensures.truth ∙ ap (list_any (known (truths_in c.args.self.now c.args.world.now))) c.as_slice.ensures
     ∙ truth_is c.args.self.now c.args.world.now c.args.number c.args.phrase.now (phrases.Any c.in-Any.numbers) c.spec.ensures.standing c.requires.phrase c.in-Any.is
 
-pub ask_phrase-ask_every-requires : goal.ask_phrase-ask_every-requires
-ask_phrase-ask_every-requires t c = (
+pub ask_phrase-ask_settled-requires-in-Every : goal.ask_phrase-ask_settled-requires-in-Every
+ask_phrase-ask_settled-requires-in-Every t c = (
   omega (arith, c.decreases),
   (
     c.requires.tree,
@@ -117,7 +97,7 @@ ask_phrase-ask_every-requires t c = (
 
 pub ask_phrase-returns-in-Every-clause-truth : goal.ask_phrase-returns-in-Every-clause-truth
 ask_phrase-returns-in-Every-clause-truth t c =
-    c.ask_every.ensures.truth ∙ ap (list_all (known (truths_in c.args.self.now c.args.world.now))) c.as_slice-in-Every.ensures
+    c.ask_settled-in-Every.ensures.truth ∙ ap (list_all (known (truths_in c.args.self.now c.args.world.now))) c.as_slice-in-Every.ensures
     ∙ truth_is c.args.self.now c.args.world.now c.args.number c.args.phrase.now (phrases.Every c.in-Every.numbers) c.spec.ensures.standing c.requires.phrase c.in-Every.is
 
 pub ask_phrase-truth_by-requires-clause-named : goal.ask_phrase-truth_by-requires-clause-named
@@ -165,10 +145,9 @@ ask_phrase-ask_function-requires t c = (
 pub ask_phrase-returns-in-Function-clause-truth : goal.ask_phrase-returns-in-Function-clause-truth
 ask_phrase-returns-in-Function-clause-truth t c =
     let fits : FitsSigned w64 c.in-Function.constant = search rules in
-    c.ask_function.ensures.truth
-    ∙ ap (λ (n : ℤ). list_any (λ x. compare c.in-Function.relation x n)
-    (function_values c.args.world.now.cells (truths_in c.args.self.now c.args.world.now) (slice_get c.args.self.now.definitions c.in-Function.function)))
-    (to_z-of_z w64 c.in-Function.constant fits)
+    let values = function_values c.args.world.now.cells (truths_in c.args.self.now c.args.world.now) (slice_get c.args.self.now.definitions c.in-Function.function) in
+    c.is_some.ensures ∙ ap (λ (o : Option ℤ). is_some o) c.ask_function.ensures.value ∙ some_found _ values
+    ∙ ap (λ (n : ℤ). list_any (λ x. compare c.in-Function.relation x n) values) (to_z-of_z w64 c.in-Function.constant fits)
     ∙ truth_is c.args.self.now c.args.world.now c.args.number c.args.phrase.now (phrases.Function c.in-Function.function c.in-Function.relation c.in-Function.constant) c.spec.ensures.standing
     c.requires.phrase c.in-Function.is
 
@@ -211,42 +190,40 @@ ask_function-ask_guard_within-requires t c =
       ),
     )
 
-pub ask_function-returns-then-compare-clause-truth : goal.ask_function-returns-then-compare-clause-truth
-ask_function-returns-then-compare-clause-truth t c =
+pub ask_function-returns-then-takes-clause-value : goal.ask_function-returns-then-takes-clause-value
+ask_function-returns-then-takes-clause-value t c =
     let all = guards_of_cases c.args.self.now.definitions c.args.function c.guards-guards.result.now c.definition.result.now c.in-Function.list c.as_slice-cases.result.now
     c.guards-guards.ensures.is c.definition.ensures.is c.in-Function.is c.as_slice-cases.ensures in
-    let fits : FitsSigned w64 c.case_value.result = search rules in
-    let constant_fits : FitsSigned w64 c.args.constant = search rules in
-    let constant = to_z w64 (of_z w64 c.args.constant) in
+    let fits : FitsSigned w64 c.number-value.result = search rules in
     let truths = truths_in c.args.self.now c.args.world.now in
-    this_one c.args.relation constant c.args.world.now.cells truths c.as_slice-cases.result.now c.guards-guards.result.now c.loop-place.place c.index-guards-place.result
+    let number = to_z-of_z w64 c.number-value.result fits ∙ c.number-value.ensures ∙ ap (λ (x : GroundCase). sum_number c.args.world.now.cells x.value) (sym c.index-cases-place.is) in
+    ap Some number
+    ∙ this_one (is_sought c.args.sought) c.args.world.now.cells truths c.as_slice-cases.result.now c.guards-guards.result.now c.loop-place.place c.index-guards-place.result
     c.index-cases-place.result all c.loop-place-test.true c.index-guards-place.is c.index-cases-place.is (sym c.ask_guard_within.ensures.truth ∙ c.if-ask_guard_within.true)
-    (ap (λ (z : ℤ). compare c.args.relation z constant) (sym (to_z-of_z w64 c.case_value.result fits ∙ c.case_value.ensures)) ∙ sym c.compare.ensures ∙ c.if-compare.true)
+    (ap (is_sought c.args.sought) (sym number) ∙ sym c.takes.ensures ∙ c.if-takes.true)
     ∙ c.loop-place.invariant.rest
-    ∙ ap (λ (n : ℤ). list_any (λ x. compare c.args.relation x n) (case_values c.args.world.now.cells truths c.as_slice-cases.result.now)) (to_z-of_z w64 c.args.constant constant_fits)
-    ∙ ap (λ (ns : List ℤ). list_any (λ x. compare c.args.relation x c.args.constant) ns)
-    (values_of_cases c.args.world.now.cells truths (slice_get c.args.self.now.definitions c.args.function) c.definition.result.now c.in-Function.list c.as_slice-cases.result.now
-    c.definition.ensures.is c.in-Function.is c.as_slice-cases.ensures)
+    ∙ ap (find (is_sought c.args.sought)) (values_of_cases c.args.world.now.cells truths (slice_get c.args.self.now.definitions c.args.function) c.definition.result.now c.in-Function.list
+    c.as_slice-cases.result.now c.definition.ensures.is c.in-Function.is c.as_slice-cases.ensures)
 
 pub ask_function-loop-place-preserved : goal.ask_function-loop-place-preserved
 ask_function-loop-place-preserved t c =
     let all = guards_of_cases c.args.self.now.definitions c.args.function c.guards-guards.result.now c.definition.result.now c.in-Function.list c.as_slice-cases.result.now
     c.guards-guards.ensures.is c.definition.ensures.is c.in-Function.is c.as_slice-cases.ensures in
-    let constant = to_z w64 (of_z w64 c.args.constant) in
     let truths = truths_in c.args.self.now c.args.world.now in
     record {
       knows = c.ask_guard_within.ensures.knows;
       kept = kept_on c.args.memo.now c.loop-place.memo c.ask_guard_within.new.memo c.loop-place.invariant.kept c.ask_guard_within.ensures.kept;
-      rest = elim c.else-ask_guard_within.branch [
-        | ask_function-else-ask_guard_within-via-then-ask_guard_within+else-compare w ↦
-            (let fits : FitsSigned w64 w.case_value.result = search rules in
-            not_this c.args.relation constant c.args.world.now.cells truths c.as_slice-cases.result.now c.guards-guards.result.now c.loop-place.place c.index-guards-place.result
+      rest = elim c.if-ask_guard_within.branch [
+        | ask_function-then-ask_guard_within+else-takes w ↦
+            (let fits : FitsSigned w64 w.number-value.result = search rules in
+            not_this (is_sought c.args.sought) c.args.world.now.cells truths c.as_slice-cases.result.now c.guards-guards.result.now c.loop-place.place c.index-guards-place.result
             w.index-cases-place.result all c.loop-place-test.true c.index-guards-place.is w.index-cases-place.is (sym c.ask_guard_within.ensures.truth ∙ w.if-ask_guard_within.true)
-            (ap (λ (z : ℤ). compare c.args.relation z constant) (sym (to_z-of_z w64 w.case_value.result fits ∙ w.case_value.ensures)) ∙ sym w.compare.ensures ∙ w.if-compare.false)
+            (ap (is_sought c.args.sought) (sym (to_z-of_z w64 w.number-value.result fits ∙ w.number-value.ensures ∙ ap (λ (x : GroundCase). sum_number c.args.world.now.cells x.value) (sym w.index-cases-place.is)))
+            ∙ sym w.takes.ensures ∙ w.if-takes.false)
             ∙ c.loop-place.invariant.rest)
-        | ask_function-else-ask_guard_within-via-else-ask_guard_within w ↦
-            none_here c.args.relation constant c.args.world.now.cells truths c.as_slice-cases.result.now c.guards-guards.result.now c.loop-place.place c.index-guards-place.result
-            all c.loop-place-test.true c.index-guards-place.is (sym c.ask_guard_within.ensures.truth ∙ w.if-ask_guard_within.false)
+        | ask_function-else-ask_guard_within w ↦
+            ap (find (is_sought c.args.sought)) (passed c.args.world.now.cells truths c.as_slice-cases.result.now c.guards-guards.result.now c.loop-place.place c.index-guards-place.result
+            all c.loop-place-test.true c.index-guards-place.is (sym c.ask_guard_within.ensures.truth ∙ w.if-ask_guard_within.false))
             ∙ c.loop-place.invariant.rest
       ];
     }

@@ -1,9 +1,10 @@
-use Rattle.std.proofs.Common.{◌≡◌, ◌+◌, ◌*◌, true, false, drop, take}
-use Rattle.std.specs.List.{All, list_any, list_all}
-use Rattle.rsml_syntax.specs.rules.Relations.{compare}
+use Rattle.std.proofs.Common.{◌≡◌, ◌+◌, ◌*◌, not, drop, take}
+use Rattle.std.specs.List.{All, find}
 use Rattle.and_or_tables.specs.Ground.{known}
 use Rattle.rsml_ground.specs.Truths.{case_values, truths_in}
 use Rattle.macros.specs.Known.{IsKnown, Knows, StillKnown}
+use Rattle.macros.specs.Sought.{is_sought}
+use Rattle.macros.proofs.Asking.{settled}
 use Rattle.macros.proofs.macros.Macros.+ask.Given as goal
 
 abbrev pub decreases-ask_within : goal.decreases-ask_within
@@ -12,11 +13,8 @@ decreases-ask_within l = 5 * l.depth + 1
 abbrev pub decreases-ask_phrase : goal.decreases-ask_phrase
 decreases-ask_phrase l = 5 * l.depth
 
-abbrev pub decreases-ask_some : goal.decreases-ask_some
-decreases-ask_some l = 5 * l.depth + 2
-
-abbrev pub decreases-ask_every : goal.decreases-ask_every
-decreases-ask_every l = 5 * l.depth + 2
+abbrev pub decreases-ask_settled : goal.decreases-ask_settled
+decreases-ask_settled l = 5 * l.depth + 2
 
 abbrev pub decreases-ask_macro : goal.decreases-ask_macro
 decreases-ask_macro l = 5 * l.depth + 4
@@ -30,27 +28,20 @@ decreases-ask_guard_within l = 5 * l.depth + 3
 abbrev pub decreases-ask_each : goal.decreases-ask_each
 decreases-ask_each l = 5 * l.depth + 2
 
-abbrev pub invariant-ask_some-loop-number : goal.invariant-ask_some-loop-number
-invariant-ask_some-loop-number l = record {
+abbrev pub invariant-ask_settled-loop-number : goal.invariant-ask_settled-loop-number
+invariant-ask_settled-loop-number l = record {
   knows : Knows l.self l.world l.memo;
   kept : StillKnown l.fn.memo l.memo;
-  none : list_any (known (truths_in l.self l.world)) (take l.number-index l.numbers) ≡ false;
+  none : settled l.settles (known (truths_in l.self l.world)) (take l.number-index l.numbers) ≡ not l.settles;
 }
 
-abbrev pub invariant-ask_every-loop-number : goal.invariant-ask_every-loop-number
-invariant-ask_every-loop-number l = record {
-  knows : Knows l.self l.world l.memo;
-  kept : StillKnown l.fn.memo l.memo;
-  all : list_all (known (truths_in l.self l.world)) (take l.number-index l.numbers) ≡ true;
-}
-
--- no case before this place has a true guard and a value in the relation
+-- no case before this place has a true guard and a value that is sought
 abbrev pub invariant-ask_function-loop-place : goal.invariant-ask_function-loop-place
 invariant-ask_function-loop-place l = record {
   knows : Knows l.self l.world l.memo;
   kept : StillKnown l.fn.memo l.memo;
-  rest : list_any (λ x. compare l.relation x l.constant) (case_values l.world.cells (truths_in l.self l.world) (drop l.place l.cases))
-      ≡ list_any (λ x. compare l.relation x l.constant) (case_values l.world.cells (truths_in l.self l.world) l.cases);
+  rest : find (is_sought l.sought) (case_values l.world.cells (truths_in l.self l.world) (drop l.place l.cases))
+      ≡ find (is_sought l.sought) (case_values l.world.cells (truths_in l.self l.world) l.cases);
 }
 
 abbrev pub invariant-ask_each-loop-number : goal.invariant-ask_each-loop-number
