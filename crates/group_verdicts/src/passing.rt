@@ -26,7 +26,7 @@ pub(crate) fn passing(
         → FindsPassing encoder.old encoder.new passes f found) }
 {
     let both = encoder.and(f, test)?;
-    if all_pass(alloc, encoder, f, test)? {
+    if all_pass(alloc, encoder, f, both)? {
         return Ok(Some(both));
     }
     let decided = encoder.decided(alloc, both)?;
@@ -36,25 +36,21 @@ pub(crate) fn passing(
     Ok(Some(both))
 }
 
-/// Whether a test passes wherever `f` is true. What is false everywhere is decided at once.
+/// Whether a test passes wherever `f` is true, where `both` are the worlds in which it does. What is false everywhere is decided at once.
 fn all_pass(
     alloc: Global,
     encoder: &mut Encoder<'_, '_>,
     f: Ref,
-    test: Ref,
+    both: Ref,
 ) -> Result<bool, NoMemory>
-    requires f_ref { IsRef encoder.old.diagram f }
-    requires test_ref { IsRef encoder.old.diagram test }
     ensures keeps { Keeps encoder.old encoder.new }
-    ensures answer { IfOk result (λ all. IsTrue all → (passes : World → Bool) → Tells encoder.old passes test
-        → AllPass encoder.old encoder.new passes f) }
+    ensures answer { IfOk result (λ all. IsTrue all → (passes : World → Bool) → AllPass encoder.old encoder.new passes f both) }
 {
-    let fails = encoder.not(test)?;
-    let others = encoder.and(f, fails)?;
-    if !encoder.is_false(others) {
+    if both != f {
         return Ok(false);
     }
-    let decided = encoder.decided(alloc, others)?;
+    let nowhere = encoder.constant(false);
+    let decided = encoder.decided(alloc, nowhere)?;
     Ok(encoder.is_false(decided))
 }
 

@@ -12,7 +12,7 @@ use rsml_base::NoMemory;
 use std::alloc::Global;
 
 // More rows than this are not looked at.
-const MOST: usize = 1024;
+const MOST: usize = 4096;
 
 /// The places of rows that no whole numbers within the ranges meet together, where such rows are
 /// found. None says nothing.

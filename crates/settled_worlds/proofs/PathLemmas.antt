@@ -45,3 +45,16 @@ high_ref d f branch is node =
     let r : IsReducedNode d f (node_at d f) = node.reduced in
     let high : (node_at d f).high ≡ branch.high = ap (λ t. t.high) node.node in
     omega (arith, is, r.high_before, high)
+
+-- they stand before it
+pub low_before : (d : Diagram) (f : ℕ) (branch : Branch) → IsBranch d f branch → branch.low < f
+low_before d f branch node =
+    let r : IsReducedNode d f (node_at d f) = node.reduced in
+    let low : (node_at d f).low ≡ branch.low = ap (λ t. t.low) node.node in
+    omega (arith, r.low_before, low)
+
+pub high_before : (d : Diagram) (f : ℕ) (branch : Branch) → IsBranch d f branch → branch.high < f
+high_before d f branch node =
+    let r : IsReducedNode d f (node_at d f) = node.reduced in
+    let high : (node_at d f).high ≡ branch.high = ap (λ t. t.high) node.node in
+    omega (arith, r.high_before, high)

@@ -7,7 +7,7 @@ ghost use Rattle.settled_worlds.specs.Conflicts.{HoldWorlds, IsThere, IsUnlike, 
 
 use crate::literal::Literal;
 use crate::one_key::key;
-use crate::paths::path;
+use crate::paths::{Search, path};
 use crate::ranges::ranges;
 use crate::rows::rows_of;
 use bdd_core::{Arena, Ref};
@@ -16,11 +16,11 @@ use linear_conflicts::{Range, conflict};
 use rsml_base::NoMemory;
 use std::alloc::Global;
 
-/// How many conflicts are taken off at most.
-const MOST: u32 = 200;
+/// How many conflicts are taken off at most, where there are no more keys than that; else as many as there are keys.
+const MOST: usize = 200;
 
 /// How many nodes are made for that at most, but for those of the last one.
-const NODES: usize = 65536;
+const NODES: usize = 131072;
 
 /// A function that is what `f` is at lawful values: false everywhere where the comparisons on the paths of `f` to true contradict
 /// one another by arithmetic, else `f` itself.
@@ -37,13 +37,14 @@ pub fn without_conflicts(
     ensures answer { IfOk result (IsSameLawfully arena.old arena.new levels.now f) }
 {
     let ranges = ranges(alloc, levels)?;
+    let mut search = Search::new(alloc);
     let before = arena.node_count();
     let mut rest = f;
-    for _turn in 0..MOST {
+    for _turn in 0..MOST.max(levels.keys().len()) {
         if arena.is_false(rest) {
             return Ok(rest);
         }
-        let found = without_conflict(alloc, arena, levels, ranges.as_slice(), rest)?;
+        let found = without_conflict(alloc, arena, levels, ranges.as_slice(), &mut search, rest)?;
         match found {
             Some(less) => rest = less,
             None => return Ok(f),
@@ -62,6 +63,7 @@ fn without_conflict(
     arena: &mut Arena,
     levels: &KeyedLevels<'_, '_>,
     ranges: &[Range],
+    search: &mut Search,
     f: Ref,
 ) -> Result<Option<Ref>, NoMemory>
     requires f_ref { IsRef arena.old f }
@@ -70,7 +72,7 @@ fn without_conflict(
     ensures keeps { Keeps arena.old arena.new }
     ensures answer { IfOk result (λ found. IfSome found (IsSameLawfully arena.old arena.new levels.now f)) }
 {
-    let path = path(alloc, arena, levels, f)?;
+    let path = path(alloc, arena, levels, search, f)?;
     let rows = rows_of(alloc, levels, path.as_slice())?;
     match conflict(alloc, rows.rows.as_slice(), ranges)? {
         Some(core) => {

@@ -22,9 +22,57 @@ struct Step {
     value: bool,
 }
 
-/// The keys on a shortest path from a function to the constant true, each with its value there. None where the way there is long.
-#[tactic(auto, using(crate::proofs::PathLemmas::first_step))]
+/// What a search has seen. The next one takes its room.
+pub(crate) struct Search {
+    seen: IndexSet<Ref>,
+    steps: Vec<Step>,
+    /// Whether a shortest path was too long to be found: none is looked for any more.
+    gave_up: bool,
+}
+
+impl Drop for Search {
+    fn drop(self) {
+        let Self {
+            seen: _,
+            steps: _,
+            gave_up: _,
+        } = self;
+    }
+}
+
+impl Search {
+    pub fn new(alloc: Global) -> Search {
+        Search {
+            seen: IndexSet::new(alloc),
+            steps: Vec::new(alloc),
+            gave_up: false,
+        }
+    }
+}
+
+/// The keys on a path from a function to the constant true, each with its value there: on a shortest one, where that can be found.
 pub(crate) fn path(
+    alloc: Global,
+    arena: &Arena,
+    levels: &KeyedLevels<'_, '_>,
+    search: &mut Search,
+    f: Ref,
+) -> Result<Vec<Literal>, NoMemory>
+    requires f_ref { IsRef arena.now f }
+    ensures { IfOk result (λ path. All (IsThere levels.now) path.items) }
+{
+    if !search.gave_up {
+        if let Some(path) = shortest(alloc, arena, levels, search, f)? {
+            return Ok(path);
+        }
+        search.gave_up = true;
+    }
+    lowest(alloc, arena, levels, f)
+}
+
+/// The keys on the path that takes the low child wherever that is not false.
+#[tactic(auto, using(crate::proofs::PathLemmas::low_before, crate::proofs::PathLemmas::high_before))]
+fn lowest(
     alloc: Global,
     arena: &Arena,
     levels: &KeyedLevels<'_, '_>,
@@ -33,25 +81,48 @@ pub(crate) fn path(
     requires f_ref { IsRef arena.now f }
     ensures { IfOk result (λ path. All (IsThere levels.now) path.items) }
 {
-    let mut seen = IndexSet::new(alloc);
-    let mut steps = Vec::new(alloc);
-    steps.push(Step {
+    let mut path = Vec::new(alloc);
+    let mut at = f;
+    while let Some(node) = arena.branch(at) {
+        let high = arena.is_false(node.low);
+        push_key(&mut path, levels, node.level, high)?;
+        at = if high { node.high } else { node.low };
+    }
+    Ok(path)
+}
+
+/// The keys on a shortest path from a function to the constant true. None where it is too long to be found.
+#[tactic(auto, using(crate::proofs::PathLemmas::first_step))]
+fn shortest(
+    alloc: Global,
+    arena: &Arena,
+    levels: &KeyedLevels<'_, '_>,
+    search: &mut Search,
+    f: Ref,
+) -> Result<Option<Vec<Literal>>, NoMemory>
+    requires f_ref { IsRef arena.now f }
+    ensures { IfOk result (λ found. IfSome found (λ path. All (IsThere levels.now) path.items)) }
+{
+    search.seen.clear();
+    search.steps.clear();
+    search.steps.push(Step {
         function: f,
         from: 0,
         level: 0,
         value: false,
     })?;
     for place in 0..MOST {
-        if place >= steps.len() {
+        if place >= search.steps.len() {
             break;
         }
-        let function = steps[place].function;
+        let function = search.steps[place].function;
         if arena.is_true(function) {
-            return keys_back(alloc, levels, steps.as_slice(), place);
+            let path = keys_back(alloc, levels, search.steps.as_slice(), place)?;
+            return Ok(Some(path));
         }
-        push_children(arena, &mut seen, &mut steps, place, function)?;
+        push_children(arena, &mut search.seen, &mut search.steps, place, function)?;
     }
-    Ok(Vec::new(alloc))
+    Ok(None)
 }
 
 /// Puts the children of the function at a place at the end of the steps, where they have not been seen.
@@ -69,15 +140,16 @@ fn push_children(
     ensures { OnOk result (AreSteps arena.now steps.new.items) }
 {
     if let Some(node) = arena.branch(function) {
-        push_step(seen, steps, place, node.level, false, node.low)?;
-        push_step(seen, steps, place, node.level, true, node.high)?;
+        push_step(arena, seen, steps, place, node.level, false, node.low)?;
+        push_step(arena, seen, steps, place, node.level, true, node.high)?;
     }
     Ok(())
 }
 
-/// Puts a step at the end, where its function has not been seen.
+/// Puts a step at the end, where its function is not false everywhere and has not been seen.
 #[tactic(auto, using(crate::proofs::PathLemmas::step_more))]
 fn push_step(
+    arena: &Arena,
     seen: &mut IndexSet<Ref>,
     steps: &mut Vec<Step>,
     from: usize,
@@ -85,12 +157,13 @@ fn push_step(
     value: bool,
     function: Ref,
 ) -> Result<(), NoMemory>
+    requires there { IsRef arena.now function }
     requires from { from < length steps.old.items }
     ensures steps { OnOk result ((d : Diagram) → AreSteps d steps.old.items → IsRef d function
         → AreSteps d steps.new.items) }
     ensures many { OnOk result (length steps.old.items ≤ length steps.new.items) }
 {
-    if seen.insert(function)? {
+    if !arena.is_false(function) && seen.insert(function)? {
         steps.push(Step {
             function,
             from,
