@@ -1,6 +1,6 @@
 use crate::instances::{Asked, Numbers, instances_of};
 use crate::items::{Item, guard_count, item_in, item_of};
-use crate::telling::tell_item;
+use crate::telling::{tell_item, tell_untold};
 use crate::verdicts::{Verdict, find_verdicts, width_of_first};
 use elaborate::Machine;
 use guard_encode::Encoder;
@@ -23,7 +23,7 @@ fn tell_instances(
     Ok(())
 }
 
-/// Tells what is found of a guard.
+/// Tells what is found of a guard; where that would take too long, that it is not told.
 fn tell_guard(
     notes: &mut Notes<'_>,
     machine: &Machine<'_>,
@@ -32,7 +32,12 @@ fn tell_guard(
     numbers: Numbers,
 ) -> Result<(), NoMemory> {
     let instances = instances_of(notes.alloc(), machine, item, numbers)?;
-    tell_instances(notes, encoder, item, instances.as_slice())
+    let told = tell_instances(notes, encoder, item, instances.as_slice());
+    if told.is_err() && encoder.is_spent() {
+        tell_untold(notes, item);
+        return Ok(());
+    }
+    told
 }
 
 /// How many instances stand before those of a declaration: of macros and functions, and of cases of sends.

@@ -27,6 +27,9 @@ struct Subject<'s> {
     verdicts: Option<&'s [Verdict]>,
 }
 
+/// By how many nodes the diagrams grow for notes and for mends, each: so many are made in less than a second.
+const NODES: usize = 400_000;
+
 /// Tells for which group memory is refused.
 fn tell_refusal(notes: &mut Notes<'_>, scene: &Scene<'_, '_>) -> Result<(), NoMemory> {
     match refused_group(notes.alloc(), scene.machine) {
@@ -46,8 +49,10 @@ fn tell_all(
 ) -> Result<(), NoMemory> {
     tell_loops(notes, scene, chains.loops())?;
     tell_clashes(notes, scene, chains.clashes())?;
+    encoder.limit(NODES);
     tell_findings(notes, scene, encoder, verdicts)?;
     tell_unused(notes, subject.checked.spec(), scene.globals)?;
+    encoder.limit(NODES);
     tell_enabled(notes, scene.machine, scene.globals, encoder)
 }
 

@@ -161,6 +161,18 @@ fn tell_never(notes: &mut Notes<'_>, item: Item<'_>) {
     );
 }
 
+/// Tells that nothing is told of a guard.
+pub fn tell_untold(notes: &mut Notes<'_>, item: Item<'_>) {
+    notes.note(
+        spot_of(item.name()),
+        "whether this guard and its columns ever hold is not told: it would take too long",
+        Piece::Nothing,
+        Piece::Nothing,
+        Piece::Nothing,
+        Piece::Nothing,
+    );
+}
+
 /// Whether all columns of a table are true in no world.
 fn are_never(verdicts: &[Verdict]) -> bool {
     for verdict in verdicts {

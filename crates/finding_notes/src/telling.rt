@@ -59,17 +59,22 @@ fn tell_members(
     Ok(())
 }
 
-/// Tells rows that mend a group, where two members are enabled.
+/// Tells rows that mend a group, where two members are enabled; where that would take too long, that they are not told.
 fn tell_mended(
     notes: &mut Notes<'_>,
     scene: &Scene<'_, '_>,
     encoder: &mut Encoder<'_, '_>,
     finding: Finding<'_>,
 ) -> Result<(), NoMemory> {
-    match first_two(scene.machine, finding) {
-        Some((one, two)) => tell_mends(notes, scene, encoder, finding, one, two),
-        None => Ok(()),
+    let Some((one, two)) = first_two(scene.machine, finding) else {
+        return Ok(());
+    };
+    let told = tell_mends(notes, scene, encoder, finding, one, two);
+    if told.is_err() && encoder.is_spent() {
+        notes.say("whether a row would mend this is not told: it would take too long");
+        return Ok(());
     }
+    told
 }
 
 /// Tells what is found of a group.

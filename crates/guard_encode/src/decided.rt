@@ -15,7 +15,7 @@ use std::alloc::Global;
 use world_levels::world_laws;
 
 impl<'m, 'a> Encoder<'m, 'a> {
-    /// `f` itself, or where it is true of no world the function that is false everywhere.
+    /// `f` itself, or where it is true of no world the function that is false everywhere. Beyond a limit on nodes it is out of memory.
     pub fn decided(&mut self, alloc: Global, f: Ref) -> Result<Ref, NoMemory>
         requires { IsRef self.old.diagram f }
         ensures keeps { Keeps self.old self.new }
@@ -25,6 +25,10 @@ impl<'m, 'a> Encoder<'m, 'a> {
     {
         keyed_laws();
         world_laws();
+        self.exact.begin(self.arena.node_count());
+        if self.exact.is_spent(self.arena.node_count()) {
+            return Err(NoMemory);
+        }
         if self.is_exact(f) {
             return Ok(f);
         }

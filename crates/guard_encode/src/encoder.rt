@@ -129,6 +129,18 @@ impl<'m, 'a> Encoder<'m, 'a> {
         self.arena.node_count()
     }
 
+    /// From now on `decided` is out of memory where a function takes more than its part of so many nodes.
+    pub fn limit(&mut self, nodes: usize)
+        ensures { self.new ≡ self.old }
+    {
+        self.exact.limit(nodes);
+    }
+
+    /// Whether `decided` was out of memory, when it was asked last, by that limit.
+    pub fn is_spent(&self) -> bool {
+        self.exact.is_spent(self.arena.node_count())
+    }
+
     /// Where a state is active.
     pub fn active(&self, node: u32) -> Ref
         requires { node < length (states self.now.machine.base.spec) }

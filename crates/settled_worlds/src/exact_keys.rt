@@ -5,10 +5,16 @@ use rsml_base::NoMemory;
 use std::alloc::Global;
 use std::marker::Model;
 
-/// The exact diagrams of keys, made when they are first asked for. Contracts see them as a list with a place for each key.
+/// The exact diagrams of keys, made when they are first asked for. Contracts see them as a list with a place for each key, and say
+/// nothing of how many nodes may be made before functions are no longer settled.
 #[derive(Drop)]
 pub struct ExactKeys {
     made: Vec<Option<Ref>>,
+    /// How many nodes may still be made.
+    left: usize,
+    /// How many of them for the function that is settled, and how many nodes there were before.
+    granted: usize,
+    before: usize,
 }
 
 impl Model for ExactKeys {
@@ -26,7 +32,34 @@ impl ExactKeys {
     {
         Ok(ExactKeys {
             made: vec![in alloc; None; count]?,
+            left: usize::MAX,
+            granted: usize::MAX,
+            before: 0,
         })
+    }
+
+    /// From now on functions are settled only as long as about so many nodes suffice for all of them.
+    pub fn limit(&mut self, nodes: usize)
+        ensures { self.new ≡ self.old }
+    {
+        self.left = nodes;
+        self.granted = 0;
+    }
+
+    /// Grants the next function a quarter of the nodes that are left, where an arena has so many nodes. What the one before has taken is
+    /// taken off, at least four and at most what it was granted.
+    pub fn begin(&mut self, nodes: usize)
+        ensures { self.new ≡ self.old }
+    {
+        let taken = nodes.saturating_sub(self.before).min(self.granted).max(4);
+        self.left = self.left.saturating_sub(taken);
+        self.granted = self.left / 4;
+        self.before = nodes;
+    }
+
+    /// Whether an arena of so many nodes has as many more as were granted.
+    pub fn is_spent(&self, nodes: usize) -> bool {
+        nodes.saturating_sub(self.before) >= self.granted
     }
 
     /// The diagram of the key at a place, where it has been made.

@@ -38,6 +38,9 @@ pub(crate) fn sweep_cells(
 {
     let mut out = f;
     for _turn in 0..levels.layout().cells() {
+        if exact.is_spent(arena.node_count()) {
+            return Err(NoMemory);
+        }
         match choose_cell(alloc, arena, levels, left, kept, out)? {
             None => return Ok(out),
             Some(cell) => {
@@ -96,6 +99,9 @@ fn sweep_cell(
 {
     let mut out = f;
     for place in 0..levels.keys().len() {
+        if exact.is_spent(arena.node_count()) {
+            return Err(NoMemory);
+        }
         out = make_reader_exact(alloc, arena, sums, levels, exact, left, place, cell, out)?;
         if arena.is_false(out) {
             return Ok(out);
