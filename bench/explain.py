@@ -1,9 +1,9 @@
 #!/usr/bin/env python3
-"""Whether `explain` takes no more processor time than three times `check` and two seconds, on texts on which notes could take long.
+"""Measures `explain` beside `check` of the same text, on texts on which notes could take long.
 
-    tests/times PROGRAM
+    bench/explain.py PROGRAM
 
-A line for each text of which that is not so; the last line is `N texts are explained in time`. The status is 0 where all are, else 1."""
+A line for each text: the processor seconds of both, and three times those of `check` and a second, which is the aim of `explain`."""
 import os
 import resource
 import subprocess
@@ -42,8 +42,8 @@ TEXTS = {
 
 def seconds(program, command, name):
     before = resource.getrusage(resource.RUSAGE_CHILDREN).ru_utime
-    status = subprocess.run([program, command, name], stdout=subprocess.DEVNULL, timeout=600).returncode
-    return resource.getrusage(resource.RUSAGE_CHILDREN).ru_utime - before, status
+    subprocess.run([program, command, name], stdout=subprocess.DEVNULL, timeout=600, check=False)
+    return resource.getrusage(resource.RUSAGE_CHILDREN).ru_utime - before
 
 
 def main(words):
@@ -51,19 +51,15 @@ def main(words):
         print(__doc__)
         return 2
     program = os.path.abspath(words[0])
-    wrong = 0
     with tempfile.TemporaryDirectory() as folder:
+        print(f"{'text':40} {'check':>8} {'explain':>8} {'aim':>8}")
         for what, text in TEXTS.items():
             name = f"{folder}/a.rsml"
             with open(name, "w", encoding="utf-8") as file:
                 file.write(text)
-            checked, status = seconds(program, "check", name)
-            explained, other = seconds(program, "explain", name)
-            if explained > 3 * checked + 2 or status != other or status > 1:
-                print(f"{what}: check {checked:.1f} s, status {status}; explain {explained:.1f} s, status {other}")
-                wrong += 1
-    print(f"{len(TEXTS) - wrong} texts are explained in time")
-    return int(bool(wrong))
+            checked, explained = seconds(program, "check", name), seconds(program, "explain", name)
+            print(f"{what:40} {checked:6.2f} s {explained:6.2f} s {3 * checked + 1:6.2f} s")
+    return 0
 
 
 if __name__ == "__main__":
