@@ -1,12 +1,14 @@
 -- Bits of words: one put in, and those of two words together.
-use Rattle.std.proofs.Common.{nat_lt, ◌≡◌, ℕ, zero, suc, ◌+◌, ◌*◌, ◌/◌, ◌%◌, ◌^◌, ◌<◌, ◌≤◌, ◌==◌, ◌&&◌, ◌||◌, Bool, true, false, if◌then◌else◌, min, max, List, [], ◌∷◌, length, get_or, set, refl, sym, ap, ◌∙◌, ⊎_elim, arith}
+use Rattle.std.proofs.Common.{nat_lt, ◌≡◌, ℕ, zero, suc, ◌+◌, ◌-◌, ◌*◌, ◌/◌, ◌%◌, ◌^◌, ◌<◌, ◌≤◌, ◌==◌, ◌&&◌, ◌||◌, Bool, true, false, if◌then◌else◌, min, max, List, [], ◌∷◌, length, get_or, set, refl, sym, ap, ◌∙◌, ⊎_elim, arith}
 use Rattle.std.specs.Int.{bit_at}
 use Rattle.std.specs.Int.RustNames.{bit_and, bit_or}
 use Rattle.std.specs.List.{list_all}
 use Rattle.std.proofs.lemmas.Bool.{ltb-false, eqb-true, ne_eqb, cases_eq, cases_lt}
 use Rattle.std.proofs.lemmas.List.{get_or-set_same, get_or-set_other, get_or_past}
 use Rattle.std.specs.Cmp.{nat_eq_equiv, first_so, second_so}
-use Rattle.std.proofs.lemmas.Nat.Bits.{bit_at-zero, bit_at_or, bit_at_and, bit_at-lt, bit_at_set_same, bit_at_set_other, bit_at_above, same_from_bits}
+use Rattle.std.proofs.lemmas.Nat.Bits.{bit_at-zero, bit_at-trailing_zeros, bit_at_or, bit_at_and, bit_at-lt, bit_at_set_same, bit_at_set_other, bit_at_above, same_from_bits}
+use Rattle.std.proofs.lemmas.Nat.{shr-shr, shr_le}
+use lib.Count.{count_trailing_zeros}
 use mir.Syntax.{w64}
 
 -- whether a place is in the set
@@ -185,12 +187,55 @@ all_within words others n long same done h = within_is words others (λ i. ⊎_e
         (λ j. bit_or (get_or_past words i 0 (omega (arith, l, long, done)) j) (get_or_past others i 0 (omega (arith, l, same, done)) j))
         ∙ sym (get_or_past others i 0 (omega (arith, l, same, done)))
 
--- an empty word has none of its 64 events
-pub none_in_word : (words : List ℕ) (at q : ℕ) → at % 64 ≡ 0 → get_or words (at / 64) 0 ≡ 0 → at ≤ q → q < at + 64 → bit words q ≡ false
-none_in_word words at q whole e l m =
-    let same : q / 64 ≡ at / 64 = omega (arith, whole, l, m) in
-    none_of_zero (get_or words (q / 64) 0) (q % 64) (ap (λ i. get_or words i 0) same ∙ e)
-
 -- no event is past the words
 pub none_past : (words : List ℕ) (q : ℕ) → length words ≡ 16 → 1024 ≤ q → bit words q ≡ false
 none_past words q long l = none_of_zero (get_or words (q / 64) 0) (q % 64) (get_or_past words (q / 64) 0 (omega (arith, long, l)))
+
+-- the bits of a word behind a place
+bit_behind : (word place i : ℕ) → bit_at (word / 2 ^ place) i ≡ bit_at word (place + i)
+bit_behind word place i = ap (λ x. x % 2) (shr-shr word place i)
+
+-- the event at a place behind another in its word
+in_word : (words : List ℕ) (at i : ℕ) → at % 64 + i < 64 → bit words (at + i) ≡ (bit_at (get_or words (at / 64) 0 / 2 ^ (at % 64)) i == 1)
+in_word words at i fits =
+    let one : (at + i) / 64 ≡ at / 64 = omega (arith, fits) in
+    let two : (at + i) % 64 ≡ at % 64 + i = omega (arith, fits) in
+    ap (λ k. bit_at (get_or words k 0) ((at + i) % 64) == 1) one
+    ∙ ap (λ k. bit_at (get_or words (at / 64) 0) k == 1) two
+    ∙ ap (λ d. d == 1) (sym (bit_behind (get_or words (at / 64) 0) (at % 64) i))
+
+-- a number in the word of another is so many places behind it
+none_between : (words : List ℕ) (at many : ℕ) → ((i : ℕ) → i < many → bit_at (get_or words (at / 64) 0 / 2 ^ (at % 64)) i ≡ 0) → at % 64 + many ≤ 64
+    → (q : ℕ) → at ≤ q → q < at + many → bit words q ≡ false
+none_between words at many none fits q l m =
+    let e : at + (q - at) ≡ q = omega arith in
+    ap (bit words) (sym e)
+    ∙ in_word words at (q - at) (omega arith)
+    ∙ ap (λ d. d == 1) (none (q - at) (omega arith))
+
+-- the lowest 1 of a word behind a place is the least event there
+pub least_in_word : (words : List ℕ) (at : ℕ) → get_or words (at / 64) 0 < 2 ^ 64 → 0 < get_or words (at / 64) 0 / 2 ^ (at % 64)
+    → (at % 64 + count_trailing_zeros 64 (get_or words (at / 64) 0 / 2 ^ (at % 64)) < 64)
+    × (bit words (at + count_trailing_zeros 64 (get_or words (at / 64) 0 / 2 ^ (at % 64))) ≡ true)
+    × ((q : ℕ) → at ≤ q → q < at + count_trailing_zeros 64 (get_or words (at / 64) 0 / 2 ^ (at % 64)) → bit words q ≡ false)
+least_in_word words at small some = (within, in_word words at zeros within ∙ ap (λ d. d == 1) (lowest.1), none_between words at zeros (lowest.2) (omega (arith, within)))
+  where
+    word : ℕ
+    word = get_or words (at / 64) 0
+
+    rest : ℕ
+    rest = word / 2 ^ (at % 64)
+
+    zeros : ℕ
+    zeros = count_trailing_zeros 64 rest
+
+    lowest : (zeros < 64) × (bit_at rest zeros ≡ 1) × ((i : ℕ) → i < zeros → bit_at rest i ≡ 0)
+    lowest = bit_at-trailing_zeros w64 rest some (omega (arith, small, shr_le word (at % 64)))
+
+    within : at % 64 + zeros < 64
+    within = ⊎_elim (λ l. l) (λ past. absurd (omega (arith, bit_at_above word 64 (at % 64 + zeros) small past, sym (bit_behind word (at % 64) zeros) ∙ lowest.1))) (cases_lt (at % 64 + zeros) 64)
+
+-- a word that is empty behind a place has no event there
+pub none_behind : (words : List ℕ) (at : ℕ) → get_or words (at / 64) 0 / 2 ^ (at % 64) ≡ 0 → (q : ℕ) → at ≤ q → q < (at / 64 + 1) * 64 → bit words q ≡ false
+none_behind words at e q l m =
+    none_between words at (64 - at % 64) (λ i _. ap (λ w. bit_at w i) e ∙ bit_at-zero i) (omega arith) q l (omega (arith, m))

@@ -4,8 +4,8 @@ ghost use Rattle.event_graph.specs.Sets.{has};
 /// How many words a set has.
 const WORDS: usize = 16;
 
-/// How many events a graph has at most.
-pub const MOST: usize = 1024;
+/// How many events a set has at most.
+const MOST: usize = 1024;
 
 /// A set of events, the numbers below 1,024.
 #[derive(Clone, Copy)]
@@ -19,6 +19,13 @@ impl Events {
         ensures { (q : ℕ) → has result q ≡ false }
     {
         Events { words: [0; 16] }
+    }
+
+    /// Takes all events out.
+    pub fn clear(&mut self)
+        ensures { (q : ℕ) → has self.new q ≡ false }
+    {
+        self.words = [0; 16];
     }
 
     /// Whether an event is in the set.
@@ -75,15 +82,24 @@ impl Events {
             × ((q : ℕ) → from ≤ q → q < e → has self.now q ≡ false)) }
         ensures none { result ≡ None → (q : ℕ) → from ≤ q → has self.now q ≡ false }
     {
+        self.next_below(from, MOST)
+    }
+
+    /// The same where all events of the set are below an end: where none comes before that, there is none. It looks at no words
+    /// behind the end.
+    pub fn next_below(&self, from: usize, end: usize) -> Option<usize>
+        requires { end ≤ 1024 }
+        ensures some { IfSome result (λ e. (from ≤ e) × (e < 1024) × (has self.now e ≡ true)
+            × ((q : ℕ) → from ≤ q → q < e → has self.now q ≡ false)) }
+        ensures none { result ≡ None → (q : ℕ) → from ≤ q → q < end → has self.now q ≡ false }
+    {
         let mut at = from;
-        while at < MOST {
-            if at % 64 == 0 && self.words[at / 64] == 0 {
-                at += 64;
-            } else if self.has(at) {
-                return Some(at);
-            } else {
-                at += 1;
+        while at < end {
+            let rest = self.words[at / 64] >> (at % 64);
+            if rest != 0 {
+                return Some(at + rest.trailing_zeros() as usize);
             }
+            at = (at / 64 + 1) * 64;
         }
         None
     }

@@ -1,4 +1,3 @@
-pub mod BitLemmas
 pub mod CandidateLemmas
 pub mod LoopLemmas
 pub mod MachineLemmas

@@ -30,8 +30,8 @@ use Rattle.ground_members.specs.declared.send_cases.GroundSendCase.{GroundSendCa
 use Rattle.ground_members.specs.Members.{TransitionIs, SendCaseIs, IsTarget, IsEvent}
 use Rattle.elaborate.specs.Machine.{GroundMachine, StandsFor}
 use Rattle.elaborate.specs.Enabled.{is_enabled, is_sending}
-use Rattle.micro_step.specs.declared.events.Events.{Events}
-use Rattle.micro_step.specs.Sets.{has}
+use Rattle.event_graph.specs.declared.events.Events.{Events}
+use Rattle.event_graph.specs.Sets.{has}
 use Rattle.micro_step.specs.Rising.{among}
 use Rattle.micro_step.specs.Places.{passes, ArePlaces}
 use Rattle.micro_step.specs.Micros.{events_in, enabled_numbers, sending_numbers}

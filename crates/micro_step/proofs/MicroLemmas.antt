@@ -18,8 +18,8 @@ use Rattle.rsml_meaning.specs.Transitions.{transitions, is_enabled}
 use Rattle.rsml_meaning.specs.Interfaces.{SendCaseInstance, send_cases, is_sending}
 use Rattle.rsml_meaning.specs.Steps.{AreOutcomes, enabled_transitions, enabled_sends}
 use Rattle.elaborate.specs.Machine.{GroundMachine, StandsFor}
-use Rattle.micro_step.specs.declared.events.Events.{Events}
-use Rattle.micro_step.specs.Sets.{has}
+use Rattle.event_graph.specs.declared.events.Events.{Events}
+use Rattle.event_graph.specs.Sets.{has}
 use Rattle.micro_step.specs.Places.{ArePlaces}
 use Rattle.micro_step.specs.Micros.{events_in, IsMicro}
 use Rattle.micro_step.specs.Numbers.{raised_at, after_number, taken_at, sent_at, of_cases, AreOfCase}

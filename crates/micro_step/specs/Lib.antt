@@ -4,4 +4,3 @@ pub mod Numbers
 pub mod Places
 pub mod Rising
 pub mod Rows
-pub mod Sets

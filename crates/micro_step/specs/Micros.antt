@@ -9,8 +9,8 @@ use Rattle.rsml_meaning.specs.Truth.{View, view}
 use Rattle.rsml_meaning.specs.Transitions.{TransitionInstance, transitions, is_enabled}
 use Rattle.rsml_meaning.specs.Interfaces.{send_cases, is_sending}
 use Rattle.rsml_meaning.specs.Steps.{Sent, Micro}
-use Rattle.micro_step.specs.declared.events.Events.{Events}
-use Rattle.micro_step.specs.Sets.{has}
+use Rattle.event_graph.specs.declared.events.Events.{Events}
+use Rattle.event_graph.specs.Sets.{has}
 use Rattle.micro_step.specs.Places.{items_where, places_where, ArePlaces}
 
 -- the set is one of events of the specification

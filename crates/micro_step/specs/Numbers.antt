@@ -21,9 +21,9 @@ use Rattle.elaborate.specs.Machine.{GroundMachine}
 use Rattle.elaborate.specs.Enabled.{is_enabled, is_sending}
 use Rattle.micro_step.specs.declared.prepared.Prepared.{Prepared}
 use Rattle.micro_step.specs.declared.reading.Reading.{Reading}
-use Rattle.micro_step.specs.declared.events.Events.{Events}
+use Rattle.event_graph.specs.declared.events.Events.{Events}
 use Rattle.micro_step.specs.Candidates.{ArePrepared, KnowsGuards}
-use Rattle.micro_step.specs.Sets.{has}
+use Rattle.event_graph.specs.Sets.{has}
 use Rattle.macros.specs.Known.{Knows}
 use Rattle.micro_step.specs.Rising.{AreRising, Numbers, among}
 use Rattle.micro_step.specs.Places.{passes, places_where}

@@ -3,7 +3,6 @@
 
 mod asking;
 mod candidates;
-mod events;
 mod learning;
 mod moves;
 mod needed;
@@ -16,7 +15,6 @@ mod scratch;
 mod steps;
 mod values;
 
-pub use events::Events;
 pub use moves::{apply_in, enter_all};
 pub use scratch::Scratch;
 pub use steps::{micro, react};

@@ -3,10 +3,10 @@ ghost use Rattle.rsml_meaning.specs.Words.{Each};
 ghost use Rattle.micro_step.specs.Numbers.{raised_at};
 ghost use Rattle.micro_step.specs.Places.{passes};
 ghost use Rattle.micro_step.specs.Rising.{among};
-ghost use Rattle.micro_step.specs.Sets.{has};
+ghost use Rattle.event_graph.specs.Sets.{has};
 
-use crate::events::Events;
 use elaborate::Machine;
+use event_graph::Events;
 
 /// Puts in the events that a transition raises.
 fn raise_by(machine: &Machine<'_>, transition: u32, raised: &mut Events)

@@ -9,11 +9,11 @@ ghost use Rattle.micro_step.specs.Places.{passes};
 ghost use Rattle.micro_step.specs.Rising.{among};
 
 use crate::candidates::put_enabled;
-use crate::events::Events;
 use crate::learning::learn_all;
 use crate::prepared::Prepared;
 use crate::rising::Rising;
 use elaborate::Machine;
+use event_graph::Events;
 use macros::Memo;
 use rsml_syntax::World;
 

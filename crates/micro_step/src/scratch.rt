@@ -7,13 +7,13 @@ ghost use Rattle.micro_step.specs.Micros.{AreEvents};
 ghost use Rattle.micro_step.specs.Numbers.{AreOfCase, HaveRoom, IsFor, sent_at, taken_at, values_of};
 ghost use Rattle.micro_step.specs.Rows.{bits_of, member_rows};
 
-use crate::events::Events;
 use crate::prepared::{Prepared, on_events};
 use crate::reading::Reading;
 use crate::rising::Rising;
 use crate::rows::member_rows;
 use crate::values::write_all;
 use elaborate::Machine;
+use event_graph::Events;
 use ground_groups::Member;
 use ground_members::GroundAnswer;
 use macros::Memo;

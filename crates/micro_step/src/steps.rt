@@ -8,11 +8,11 @@ ghost use Rattle.macros.specs.Known.{Knows};
 ghost use Rattle.micro_step.specs.Micros.{AreEvents, IsMicro, events_in};
 ghost use Rattle.micro_step.specs.Numbers.{IsFor, left_by, of_cases, sent_at, taken_at};
 
-use crate::events::Events;
 use crate::moves::enter_all;
 use crate::raising::raise_all;
 use crate::scratch::Scratch;
 use elaborate::Machine;
+use event_graph::Events;
 use rsml_meaning::{micro_steps_have_one_result, rounds_are_determinate};
 use rsml_syntax::World;
 

@@ -11,10 +11,10 @@ use Rattle.rsml_meaning.proofs.Same.{instance_itself}
 use Rattle.rsml_meaning.proofs.Lists.{is_false, any_one}
 use Rattle.state_tree.proofs.Lists.{get_within, within_get, one_at}
 use Rattle.ground_members.proofs.Numbers.{place_is}
-use Rattle.micro_step.specs.declared.events.Events.{Events}
+use Rattle.event_graph.specs.declared.events.Events.{Events}
 use Rattle.micro_step.specs.Micros.{AreEvents, events_in}
 use Rattle.micro_step.specs.Places.{items_where}
-use Rattle.micro_step.specs.Sets.{has}
+use Rattle.event_graph.specs.Sets.{has}
 use Rattle.reactions.proofs.EventTexts.{all_first, next_first}
 
 -- the receive of a number, and its event

@@ -10,7 +10,7 @@ use Rattle.rsml_meaning.specs.Steps.{Sent, Round}
 use Rattle.rsml_meaning.specs.Texts.{text_line, label}
 use Rattle.rsml_meaning.specs.Trace.{round_line, send_line, round_text}
 use Rattle.elaborate.specs.Machine.{GroundMachine}
-use Rattle.micro_step.specs.declared.events.Events.{Events}
+use Rattle.event_graph.specs.declared.events.Events.{Events}
 use Rattle.micro_step.specs.Micros.{events_in}
 use Rattle.micro_step.specs.Numbers.{Kept, of_cases}
 use Rattle.micro_step.specs.Places.{ArePlaces}

@@ -7,11 +7,11 @@ use Rattle.rsml_meaning.specs.Instances.{events}
 use Rattle.rsml_meaning.specs.Words.{Instance}
 use Rattle.rsml_meaning.specs.Steps.{Round}
 use Rattle.elaborate.specs.Machine.{GroundMachine}
-use Rattle.micro_step.specs.declared.events.Events.{Events}
+use Rattle.event_graph.specs.declared.events.Events.{Events}
 use Rattle.micro_step.specs.Micros.{AreEvents, IsMicro, events_in}
 use Rattle.micro_step.specs.Numbers.{Kept, of_cases}
 use Rattle.micro_step.specs.Places.{items_where}
-use Rattle.micro_step.specs.Sets.{has}
+use Rattle.event_graph.specs.Sets.{has}
 use Rattle.reactions.specs.Rounds.{IsRoundOf}
 use Rattle.reactions.proofs.EventTexts.{none_at_all}
 use Rattle.reactions.specs.Stepping.{InWorld, LastRound, RoundIsDone, WasRound, last_of}

@@ -4,7 +4,7 @@ use Rattle.rsml_syntax.specs.declared.syntax.Spec.{Spec}
 use Rattle.rsml_meaning.specs.Transitions.{transitions}
 use Rattle.rsml_meaning.specs.Interfaces.{send_cases}
 use Rattle.rsml_meaning.specs.Steps.{Round}
-use Rattle.micro_step.specs.declared.events.Events.{Events}
+use Rattle.event_graph.specs.declared.events.Events.{Events}
 use Rattle.micro_step.specs.Micros.{events_in}
 use Rattle.micro_step.specs.Numbers.{Kept, of_cases}
 use Rattle.micro_step.specs.Places.{ArePlaces}

@@ -14,7 +14,7 @@ use Rattle.rsml_meaning.specs.Steps.{Round, IsRound}
 use Rattle.macros.specs.Known.{Knows}
 use Rattle.interfaces.specs.Writes.{AreTyped}
 use Rattle.elaborate.specs.Machine.{GroundMachine}
-use Rattle.micro_step.specs.declared.events.Events.{Events}
+use Rattle.event_graph.specs.declared.events.Events.{Events}
 use Rattle.micro_step.specs.Micros.{AreEvents, events_in, enabled_numbers, sending_numbers}
 use Rattle.micro_step.specs.Numbers.{Kept, IsFor, left_by, of_cases}
 use Rattle.micro_step.specs.Places.{ArePlaces}

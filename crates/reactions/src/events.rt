@@ -5,14 +5,14 @@ ghost use Rattle.rsml_meaning.specs.Texts.{text_line};
 ghost use Rattle.rsml_meaning.specs.Trace.{event_line, round_line};
 ghost use Rattle.text_writer.specs.Writes.{Writes};
 ghost use Rattle.micro_step.specs.Micros.{AreEvents, events_in};
-ghost use Rattle.micro_step.specs.Sets.{has};
+ghost use Rattle.event_graph.specs.Sets.{has};
 ghost use Rattle.reactions.specs.Lines.{ArePartTexts, spaced};
 ghost use Rattle.reactions.specs.declared.part.Part.TheVariants as part;
 
 use crate::part::{Part, put_spaced};
 use crate::part_texts::PartTexts;
+use event_graph::Events;
 use instance_texts::Texts;
-use micro_step::Events;
 use text_writer::{Writer, put_line_end, put_number};
 
 /// Writes the line of an event: its number, and the receive by which it came. `ends` are the ends of such lines.

@@ -5,7 +5,7 @@ use Rattle.rsml_syntax.specs.declared.world.World.{World}
 use Rattle.rsml_meaning.specs.Transitions.{TransitionInstance, transitions}
 use Rattle.rsml_meaning.specs.Steps.{Round}
 use Rattle.state_tree.proofs.Lists.{as_long}
-use Rattle.micro_step.specs.declared.events.Events.{Events}
+use Rattle.event_graph.specs.declared.events.Events.{Events}
 use Rattle.micro_step.specs.Micros.{IsMicro, events_in}
 use Rattle.micro_step.specs.Numbers.{Kept, of_cases}
 use Rattle.micro_step.specs.Places.{ArePlaces}

@@ -7,7 +7,7 @@ use Rattle.rsml_meaning.specs.Chains.{Ends}
 use Rattle.rsml_meaning.specs.Certified.{Certified}
 use Rattle.rsml_meaning.specs.Scoped.{WellScoped}
 use Rattle.elaborate.specs.Machine.{GroundMachine}
-use Rattle.micro_step.specs.declared.events.Events.{Events}
+use Rattle.event_graph.specs.declared.events.Events.{Events}
 use Rattle.micro_step.specs.Micros.{AreEvents, events_in}
 use Rattle.reactions.specs.Stepping.{IsExternal}
 use Rattle.reactions.proofs.ChainBounds.{none_ends, ends_one}

@@ -3,7 +3,7 @@ ghost use Rattle.rsml_meaning.specs.Interfaces.{ReceiveInstance, receives};
 ghost use Rattle.micro_step.specs.Micros.{AreEvents, events_in};
 
 use elaborate::Machine;
-use micro_step::Events;
+use event_graph::Events;
 
 /// The set of the event that a receive raises.
 pub fn raised(machine: &Machine<'_>, receive: u32) -> Events

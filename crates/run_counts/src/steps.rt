@@ -10,7 +10,8 @@ ghost use Rattle.run_counts.specs.Series.{RoundIsCounted, StepIsCounted};
 use crate::moves::moves_among;
 use crate::progress::Progress;
 use elaborate::Machine;
-use micro_step::{Events, micro};
+use event_graph::Events;
+use micro_step::micro;
 
 /// Does a round on the events of a set, and counts it. Whether it leaves an event.
 fn count_round(machine: &Machine<'_>, progress: &mut Progress, events: &mut Events) -> bool

@@ -1,6 +1,6 @@
 use Rattle.std.proofs.Common.{◌≡◌, ℕ, take}
 use Rattle.micro_step.specs.Numbers.{raised_at}
-use Rattle.micro_step.specs.Sets.{has}
+use Rattle.event_graph.specs.Sets.{has}
 use Rattle.micro_step.proofs.raising.raise_all.Given as goal
 
 abbrev pub invariant-loop-transition : goal.invariant-loop-transition

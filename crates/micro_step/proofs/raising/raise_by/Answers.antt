@@ -2,7 +2,7 @@ use Rattle.std.proofs.Common.{◌≡◌, ◌==◌, ◌<◌, ◌||◌, true, List
 use Rattle.std.proofs.lemmas.List.{take_all}
 use Rattle.rsml_meaning.specs.Instances.{events}
 use Rattle.micro_step.specs.Rising.{among}
-use Rattle.micro_step.specs.Sets.{has}
+use Rattle.event_graph.specs.Sets.{has}
 use Rattle.micro_step.proofs.MachineLemmas.{raises_below}
 use Rattle.micro_step.proofs.LoopLemmas.{among_item, listed_more, raised_by_one}
 use Rattle.micro_step.proofs.RisingLemmas.{or_group, no_more}

@@ -3,7 +3,7 @@ use Rattle.rsml_meaning.specs.Worlds.{IsWorld}
 use Rattle.elaborate.specs.Enabled.{is_enabled}
 use Rattle.micro_step.specs.Micros.{IsMicro}
 use Rattle.micro_step.specs.Numbers.{after_number, of_cases}
-use Rattle.micro_step.specs.Sets.{has}
+use Rattle.event_graph.specs.Sets.{has}
 use Rattle.micro_step.proofs.MicroLemmas.{world_choices}
 use Rattle.micro_step.proofs.LoopLemmas.{places_below}
 use Rattle.micro_step.proofs.steps.micro.Goals as goal

@@ -1,7 +1,7 @@
 use Rattle.std.proofs.Common.{◌&&◌, List, ℕ, sym, ap, ◌∙◌, refl}
 use Rattle.elaborate.specs.Enabled.{is_enabled}
 use Rattle.micro_step.specs.Numbers.{raised_at, left_by}
-use Rattle.micro_step.specs.Sets.{has}
+use Rattle.event_graph.specs.Sets.{has}
 use Rattle.micro_step.proofs.MachineLemmas.{raised_within}
 use Rattle.micro_step.proofs.MicroLemmas.{is_micro, leaves_world, is_determinate}
 use Rattle.micro_step.proofs.LoopLemmas.{places_below}

@@ -1,5 +1,5 @@
 use Rattle.std.proofs.Common.{◌+◌, refl, arith}
-use Rattle.micro_step.specs.Sets.{has}
+use Rattle.event_graph.specs.Sets.{has}
 use Rattle.micro_step.proofs.PlaceLemmas.{none_left}
 use Rattle.reactions.proofs.events.lone.Goals as goal
 

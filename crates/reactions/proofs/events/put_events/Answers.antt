@@ -2,7 +2,7 @@ use Rattle.std.proofs.Common.{◌+◌, List, sym, ap, flat_map, refl, arith}
 use Rattle.rsml_meaning.specs.Words.{Instance}
 use Rattle.rsml_meaning.specs.Instances.{events}
 use Rattle.state_tree.proofs.Lists.{within_get}
-use Rattle.micro_step.specs.Sets.{has}
+use Rattle.event_graph.specs.Sets.{has}
 use Rattle.micro_step.proofs.PlaceLemmas.{none_left}
 use Rattle.text_writer.proofs.WritingLemmas.{followed, alike, still}
 use Rattle.reactions.specs.Lines.{spaced}

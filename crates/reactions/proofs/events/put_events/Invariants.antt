@@ -2,7 +2,7 @@ use Rattle.std.proofs.Common.{◌≡◌, ◌<◌, ◌-◌, true, flat_map, take}
 use Rattle.rsml_meaning.specs.Instances.{events}
 use Rattle.text_writer.specs.Writes.{Writes}
 use Rattle.micro_step.specs.Places.{items_where}
-use Rattle.micro_step.specs.Sets.{has}
+use Rattle.event_graph.specs.Sets.{has}
 use Rattle.reactions.specs.Lines.{spaced}
 use Rattle.reactions.proofs.events.put_events.Given as goal
 

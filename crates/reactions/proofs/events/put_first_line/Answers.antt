@@ -1,7 +1,7 @@
 use Rattle.std.proofs.Common.{arith}
 use Rattle.rsml_meaning.specs.Instances.{events}
 use Rattle.state_tree.proofs.Lists.{within_get}
-use Rattle.micro_step.specs.Sets.{has}
+use Rattle.event_graph.specs.Sets.{has}
 use Rattle.text_writer.proofs.WritingLemmas.{alike}
 use Rattle.reactions.proofs.EventTexts.{first_line}
 use Rattle.reactions.proofs.events.put_first_line.Goals as goal

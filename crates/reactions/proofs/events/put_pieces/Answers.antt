@@ -3,7 +3,7 @@ use Rattle.rsml_meaning.specs.Words.{Instance}
 use Rattle.rsml_meaning.specs.Instances.{events}
 use Rattle.rsml_meaning.specs.Trace.{round_line}
 use Rattle.micro_step.specs.Micros.{events_in}
-use Rattle.micro_step.specs.Sets.{has}
+use Rattle.event_graph.specs.Sets.{has}
 use Rattle.micro_step.proofs.PlaceLemmas.{none_left}
 use Rattle.text_writer.proofs.WritingLemmas.{followed, alike}
 use Rattle.reactions.specs.Lines.{spaced}

@@ -1,6 +1,6 @@
 use Rattle.std.proofs.Common.{◌≡◌, ◌&&◌, true, false, is_some, ◌∙◌, arith}
 use Rattle.elaborate.specs.Enabled.{is_enabled}
-use Rattle.micro_step.specs.Sets.{has}
+use Rattle.event_graph.specs.Sets.{has}
 use Rattle.micro_step.proofs.LoopLemmas.{places_below}
 use Rattle.reactions.proofs.WrittenLemmas.{left_of}
 use Rattle.run_counts.proofs.MoveLemmas.{few, taken_few}

@@ -1,7 +1,7 @@
 use Rattle.std.proofs.Common.{◌&&◌, List, ℕ, refl, ap, ◌∙◌, arith}
 use Rattle.elaborate.specs.Enabled.{is_enabled, is_sending}
 use Rattle.micro_step.specs.Rising.{among}
-use Rattle.micro_step.specs.Sets.{has}
+use Rattle.event_graph.specs.Sets.{has}
 use Rattle.micro_step.proofs.PlaceLemmas.{events_none, events_more, events_all, are_places, none_left}
 use Rattle.micro_step.proofs.reading.Reading.read_all.Goals as goal
 

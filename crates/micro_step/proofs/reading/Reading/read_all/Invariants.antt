@@ -3,7 +3,7 @@ use Rattle.elaborate.specs.Enabled.{is_enabled, is_sending}
 use Rattle.micro_step.specs.Numbers.{IsReading}
 use Rattle.micro_step.specs.Places.{passes}
 use Rattle.micro_step.specs.Rising.{among}
-use Rattle.micro_step.specs.Sets.{has}
+use Rattle.event_graph.specs.Sets.{has}
 use Rattle.micro_step.proofs.PlaceLemmas.{before_event}
 use Rattle.micro_step.proofs.reading.Reading.read_all.Given as goal
 

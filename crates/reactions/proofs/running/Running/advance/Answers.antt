@@ -9,7 +9,7 @@ use Rattle.rsml_syntax.specs.declared.syntax.Spec.{Spec}
 use Rattle.elaborate.specs.Enabled.{is_enabled}
 use Rattle.micro_step.specs.Micros.{events_in}
 use Rattle.micro_step.specs.Numbers.{after_number, left_by}
-use Rattle.micro_step.specs.Sets.{has}
+use Rattle.event_graph.specs.Sets.{has}
 use Rattle.micro_step.proofs.LoopLemmas.{places_below}
 use Rattle.micro_step.proofs.MicroLemmas.{world_choices}
 use Rattle.reactions.specs.Stepping.{Held, Incoming, InWorld, IsIncoming, RoundIsDone, last_of, latched_by, settled}

@@ -1,6 +1,6 @@
 use Rattle.std.proofs.Common.{◌-◌, ◌≡◌, ℕ, ◌<◌, ◌≤◌, false}
-use Rattle.micro_step.specs.Sets.{has}
-use Rattle.micro_step.proofs.events.Events.next_below.Given as goal
+use Rattle.event_graph.specs.Sets.{has}
+use Rattle.event_graph.proofs.events.Events.next_below.Given as goal
 
 abbrev pub invariant-loop-at : goal.invariant-loop-at
 invariant-loop-at l = (l.from ≤ l.at) × ((q : ℕ) → l.from ≤ q → q < l.at → has l.self q ≡ false)

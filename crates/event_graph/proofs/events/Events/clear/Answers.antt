@@ -1,7 +1,7 @@
 use Rattle.std.proofs.Common.{refl, [], ◌∷◌}
-use Rattle.micro_step.specs.Sets.{has}
-use Rattle.micro_step.proofs.BitLemmas.{none_is}
-use Rattle.micro_step.proofs.events.Events.clear.Goals as goal
+use Rattle.event_graph.specs.Sets.{has}
+use Rattle.event_graph.proofs.BitLemmas.{none_is}
+use Rattle.event_graph.proofs.events.Events.clear.Goals as goal
 
 pub returns : goal.returns
 unfolding has

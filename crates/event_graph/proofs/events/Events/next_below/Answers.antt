@@ -1,8 +1,8 @@
 use Rattle.std.proofs.Common.{rules, arith, ⊎_elim}
 use Rattle.std.proofs.lemmas.Bool.{cases_lt}
-use Rattle.micro_step.specs.Sets.{has}
-use Rattle.micro_step.proofs.BitLemmas.{least_in_word, none_behind}
-use Rattle.micro_step.proofs.events.Events.next_below.Goals as goal
+use Rattle.event_graph.specs.Sets.{has}
+use Rattle.event_graph.proofs.BitLemmas.{least_in_word, none_behind}
+use Rattle.event_graph.proofs.events.Events.next_below.Goals as goal
 
 pub returns-then-rest-ne0-clause-some : goal.returns-then-rest-ne0-clause-some
 unfolding has
