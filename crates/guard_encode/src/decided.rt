@@ -23,12 +23,22 @@ impl<'m, 'a> Encoder<'m, 'a> {
         ensures answer { IfOk result (λ r. (truth : World → Bool) → Tells self.old truth f → TellsExactly self.new truth r) }
         ensures found { IfOk result (λ r. (truth : World → Bool) → Finds self.old truth f → FindsExactly self.new truth r) }
     {
-        keyed_laws();
-        world_laws();
-        self.exact.begin(self.arena.node_count());
-        if self.exact.is_spent(self.arena.node_count()) {
+        if self.begin() {
             return Err(NoMemory);
         }
+        self.decide(alloc, f)
+    }
+
+    /// The same, whatever the limit.
+    fn decide(&mut self, alloc: Global, f: Ref) -> Result<Ref, NoMemory>
+        requires { IsRef self.old.diagram f }
+        ensures keeps { Keeps self.old self.new }
+        ensures is_ref { IfOk result (IsRef self.new.diagram) }
+        ensures answer { IfOk result (λ r. (truth : World → Bool) → Tells self.old truth f → TellsExactly self.new truth r) }
+        ensures found { IfOk result (λ r. (truth : World → Bool) → Finds self.old truth f → FindsExactly self.new truth r) }
+    {
+        keyed_laws();
+        world_laws();
         if self.is_exact(f) {
             return Ok(f);
         }

@@ -136,6 +136,14 @@ impl<'m, 'a> Encoder<'m, 'a> {
         self.exact.limit(nodes);
     }
 
+    /// Begins a question to `decided`: whether the limit leaves nothing for it.
+    pub(crate) fn begin(&mut self) -> bool
+        ensures { self.new ≡ self.old }
+    {
+        self.exact.begin(self.arena.node_count());
+        self.is_spent()
+    }
+
     /// Whether `decided` was out of memory, when it was asked last, by that limit.
     pub fn is_spent(&self) -> bool {
         self.exact.is_spent(self.arena.node_count())

@@ -1,32 +1,22 @@
-use Rattle.std.proofs.Common.{sym, ◌∙◌, true≢false}
-use Rattle.guard_encode.proofs.DecidedLemmas.{exact_nowhere, exact_somewhere}
-use Rattle.guard_encode.proofs.FindLemmas.{found_nowhere, found_somewhere}
+use Rattle.std.proofs.Common.{subst, sym}
+use Rattle.std.specs.Prelude.{Bool, IfOk}
+use Rattle.rsml_syntax.specs.declared.world.World.{World}
+use Rattle.bdd_core.specs.Diagram.{IsRef}
+use Rattle.guard_encode.specs.Encoding.{Encoding, Finds, FindsExactly, Keeps, Tells, TellsExactly}
 use Rattle.guard_encode.proofs.encoder.Encoder.decided.Goals as goal
 
-pub returns-then-is_false-clause-answer : goal.returns-then-is_false-clause-answer
-returns-then-is_false-clause-answer c = λ truth told.
-    exact_nowhere c.keyed_laws.ensures.worlds c.keyed_laws.ensures.none c.args.self.now c.settled.new.self truth c.args.f c.in_ok-settled.settled c.in_ok-settled.ensures.keeps c.in_ok-settled.ensures.keyed
-    c.in_ok-settled.ensures.answer (c.is_false.ensures.0 c.if-is_false.true) told
+pub decide-requires : goal.decide-requires
+decide-requires c = subst (λ (e : Encoding). IsRef e.diagram c.args.f) (sym c.begin.ensures) c.requires
 
-pub returns-else-is_false-clause-answer : goal.returns-else-is_false-clause-answer
-returns-else-is_false-clause-answer c = λ truth told.
-    exact_somewhere c.keyed_laws.ensures.none c.args.self.now c.settled.new.self truth c.args.f c.in_ok-settled.settled c.in_ok-settled.ensures.keeps c.in_ok-settled.ensures.keyed
-    c.in_ok-settled.ensures.answer (λ never. true≢false (sym (c.is_false.ensures.1 never) ∙ c.if-is_false.false)) told
+pub returns-clause-keeps : goal.returns-clause-keeps
+returns-clause-keeps c = subst (λ (e : Encoding). Keeps e c.decide.new.self) c.begin.ensures c.decide.ensures.keeps
 
-pub returns-then-is_false-clause-found : goal.returns-then-is_false-clause-found
-returns-then-is_false-clause-found c = λ truth found.
-    found_nowhere c.world_laws.ensures.each c.world_laws.ensures.free c.keyed_laws.ensures.each c.keyed_laws.ensures.worlds
-    c.args.self.now c.settled.new.self truth c.args.f c.in_ok-settled.settled c.in_ok-settled.ensures.keeps c.in_ok-settled.ensures.keyed
-    c.in_ok-settled.ensures.answer (c.is_false.ensures.0 c.if-is_false.true) found
+pub returns-clause-answer : goal.returns-clause-answer
+returns-clause-answer c =
+    subst (λ (e : Encoding). IfOk c.decide.result (λ r. (truth : World → Bool) → Tells e truth c.args.f → TellsExactly c.decide.new.self truth r))
+    c.begin.ensures c.decide.ensures.answer
 
-pub returns-else-is_false-clause-found : goal.returns-else-is_false-clause-found
-returns-else-is_false-clause-found c = λ truth found.
-    found_somewhere c.world_laws.ensures.each c.world_laws.ensures.free c.keyed_laws.ensures.each c.keyed_laws.ensures.worlds
-    c.args.self.now c.settled.new.self truth c.args.f c.in_ok-settled.settled c.in_ok-settled.ensures.keeps c.in_ok-settled.ensures.keyed
-    c.in_ok-settled.ensures.answer (λ never. true≢false (sym (c.is_false.ensures.1 never) ∙ c.if-is_false.false)) found
-
-pub returns-then-is_exact-clause-answer : goal.returns-then-is_exact-clause-answer
-returns-then-is_exact-clause-answer c = c.is_exact.ensures.told c.if-is_exact.true
-
-pub returns-then-is_exact-clause-found : goal.returns-then-is_exact-clause-found
-returns-then-is_exact-clause-found c = c.is_exact.ensures.found c.if-is_exact.true
+pub returns-clause-found : goal.returns-clause-found
+returns-clause-found c =
+    subst (λ (e : Encoding). IfOk c.decide.result (λ r. (truth : World → Bool) → Finds e truth c.args.f → FindsExactly c.decide.new.self truth r))
+    c.begin.ensures c.decide.ensures.found
