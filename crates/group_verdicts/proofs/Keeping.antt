@@ -5,7 +5,7 @@ use Rattle.rsml_syntax.specs.declared.world.World.{World}
 use Rattle.rsml_meaning.specs.Worlds.{IsWorld}
 use Rattle.bdd_core.specs.Diagram.{IsRef, meaning}
 use Rattle.elaborate.specs.Machine.{GroundMachine}
-use Rattle.guard_encode.specs.Encoding.{Encoding, Finds, Keeps, Tells}
+use Rattle.guard_encode.specs.Encoding.{Encoding, Keeps}
 use Rattle.group_verdicts.specs.Narrowing.{IsOfNone}
 use Rattle.group_verdicts.specs.Finding.{IsOfSome}
 
@@ -44,19 +44,3 @@ some_pass s truth test all some none = some (λ w is. by (truth w) (test w) (all
     by false b fails passes = refl
     by true true fails passes = passes
     by true false fails passes = fails
-
--- where f is what finds those of its worlds that pass a test, what is false everywhere finds those that do not
-pub none_fail : (e : Encoding) (truth test : World → Bool) (f both nowhere : ℕ) → both ≡ f → Finds e truth f → Finds e (λ w. truth w && test w) both
-    → Tells e (λ w. false) nowhere → Finds e (λ w. truth w && not (test w)) nowhere
-none_fail e truth test f both nowhere same found passing told =
-    let there : Finds e (λ w. truth w && test w) f = subst (λ r. Finds e (λ w. truth w && test w) r) same passing in
-    record {
-      is_ref = told.is_ref;
-      spelled = λ w free is lawful. told.means _ lawful ∙ sym (by _ _ (sym (found.spelled w free is lawful) ∙ there.spelled w free is lawful));
-      others = λ v lawful fails. told.means v lawful;
-    }
-  where
-    by : (t b : Bool) → t ≡ (t && b) → (t && not b) ≡ false
-    by false b same = refl
-    by true true same = refl
-    by true false same = absurd (true≢false same)

@@ -13,10 +13,9 @@ use Rattle.group_verdicts.specs.Narrowing.{IsOfNone, Narrows, Bounds, IsLow, IsO
 abbrev pub IsOfSome : Encoding → (World → Bool) → Type 0
 IsOfSome e truth = IsOfNone (IsWorld e.machine.base.spec) truth → ⊥
 
--- all worlds that f finds pass a test, where r finds those that do
-abbrev pub AllPass : Encoding → Encoding → (World → Bool) → ℕ → ℕ → Type 0
-AllPass old new test f r = (truth : World → Bool) → Finds old truth f → Finds old (λ w. truth w && test w) r
-    → IsOfNone (IsWorld new.machine.base.spec) (λ w. truth w && not (test w))
+-- all worlds that f finds pass a test
+abbrev pub AllPass : Encoding → Encoding → (World → Bool) → ℕ → Type 0
+AllPass old new test f = (truth : World → Bool) → Finds old truth f → IsOfNone (IsWorld new.machine.base.spec) (λ w. truth w && not (test w))
 
 -- if there are worlds that f finds, some of them pass a test, and r finds those; or none of them does
 abbrev pub FindsPassing : Encoding → Encoding → (World → Bool) → ℕ → Option ℕ → Type 0

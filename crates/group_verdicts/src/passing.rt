@@ -26,7 +26,7 @@ pub(crate) fn passing(
         → FindsPassing encoder.old encoder.new passes f found) }
 {
     let both = encoder.and(f, test)?;
-    if all_pass(alloc, encoder, f, both)? {
+    if all_pass(alloc, encoder, f, test)? {
         return Ok(Some(both));
     }
     let decided = encoder.decided(alloc, both)?;
@@ -36,21 +36,25 @@ pub(crate) fn passing(
     Ok(Some(both))
 }
 
-/// Whether a test passes wherever `f` is true, where `both` are the worlds in which it does. What is false everywhere is decided at once.
+/// Whether a test passes wherever `f` is true. What is false everywhere is decided at once.
 fn all_pass(
     alloc: Global,
     encoder: &mut Encoder<'_, '_>,
     f: Ref,
-    both: Ref,
+    test: Ref,
 ) -> Result<bool, NoMemory>
+    requires f_ref { IsRef encoder.old.diagram f }
+    requires test_ref { IsRef encoder.old.diagram test }
     ensures keeps { Keeps encoder.old encoder.new }
-    ensures answer { IfOk result (λ all. IsTrue all → (passes : World → Bool) → AllPass encoder.old encoder.new passes f both) }
+    ensures answer { IfOk result (λ all. IsTrue all → (passes : World → Bool) → Tells encoder.old passes test
+        → AllPass encoder.old encoder.new passes f) }
 {
-    if both != f {
+    let fails = encoder.not(test)?;
+    let others = encoder.and(f, fails)?;
+    if !encoder.is_false(others) {
         return Ok(false);
     }
-    let nowhere = encoder.constant(false);
-    let decided = encoder.decided(alloc, nowhere)?;
+    let decided = encoder.decided(alloc, others)?;
     Ok(encoder.is_false(decided))
 }
 

@@ -1,7 +1,7 @@
 use Rattle.std.proofs.Common.{Bool, ◌&&◌}
 use Rattle.rsml_syntax.specs.declared.world.World.{World}
 use Rattle.guard_encode.proofs.FindLemmas.{found_on}
-use Rattle.guard_encode.proofs.StepLemmas.{keeps_on}
+use Rattle.guard_encode.proofs.StepLemmas.{keeps_on, told_on}
 use Rattle.group_verdicts.proofs.Keeping.{some_decided, some_on, some_pass}
 use Rattle.group_verdicts.proofs.passing.passing.Goals as goal
 
@@ -14,7 +14,7 @@ returns-then-branch-clause-answer c = λ passes test truth found some.
     let bd = c.in_ok-all_pass.ensures.keeps in (
       found_on b d (λ w. truth w && passes w) c.in_ok-both.both bd (c.in_ok-both.ensures.found truth passes found test),
       some_pass d.machine.base.spec truth passes
-          (c.in_ok-all_pass.ensures.answer c.if-branch.true passes truth (found_on a b truth c.args.f ab found) (c.in_ok-both.ensures.found truth passes found test))
+          (c.in_ok-all_pass.ensures.answer c.if-branch.true passes (told_on a b passes c.args.test ab test) truth (found_on a b truth c.args.f ab found))
           (some_on a d truth (keeps_on a b d ab bd) some),
     )
 
