@@ -17,7 +17,8 @@ use Rattle.checking.specs.Outputs.{SpecificationOutput, CheckOutput, FormatOutpu
 use Rattle.checking.specs.Outputs as output
 use Rattle.checking.proofs.CheckLemmas.{checks_texts, formats_texts, migrates_texts}
 use Rattle.explaining.proofs.ExplainLemmas.{explains_texts}
-use Rattle.rsml.specs.Commands.{Command, act, simulate, specification_file, Names}
+use Rattle.following.specs.declared.event_action.EventAction.{EventAction}
+use Rattle.rsml.specs.Commands.{Command, act, follow, specification_file, Names}
 use Rattle.rsml.specs.Commands as commands
 use Rattle.rsml.specs.Output.{ActionOutput}
 use Rattle.rsml.specs.Promises.{judged_answers, layout_answers, answers_of}
@@ -103,6 +104,6 @@ memory_is action.Migrate file = (5, lit< tt, refl)
 pub names_specification : (c : Command) (file name : Bytes) → specification_file c ≡ Some file → name ≡ file → Names c name
 names_specification c file name is e = commands.specification c name (is ∙ ap Some (sym e))
 
-pub names_events : (c : Command) (file events name : Bytes) → c ≡ simulate file events → name ≡ events → Names c name
-names_events c file events name is e =
-    subst (λ (d : Command). Names d name) (sym is) (subst (λ (x : Bytes). Names (simulate file events) x) (sym e) (commands.events file events))
+pub names_events : (c : Command) (does : EventAction) (file events name : Bytes) → c ≡ follow does file events → name ≡ events → Names c name
+names_events c does file events name is e =
+    subst (λ (d : Command). Names d name) (sym is) (subst (λ (x : Bytes). Names (follow does file events) x) (sym e) (commands.events does file events))

@@ -5,7 +5,7 @@ use Rattle.rsml_meaning.specs.EventFiles.{program_limits, FileFault, long_line, 
 use Rattle.rsml_meaning.specs.EventLines.{Bytes}
 use Rattle.rsml_syntax.specs.declared.syntax.Spec.{Spec}
 use Rattle.simulator.specs.Outputs.{end_of, done, faulty}
-use Rattle.simulator.specs.Outputs as simulation
+use Rattle.simulator.specs.Outputs as events_file
 use Rattle.simulator.specs.declared.sim_end.SimEnd.{SimEnd}
 use Rattle.answering.specs.Lines as lines
 use Rattle.answering.specs.Uses.{ReadRefused, Writes}
@@ -14,19 +14,21 @@ use Rattle.answering.specs.declared.status.Status.{Status}
 use Rattle.answering.specs.declared.status.Status.TheVariants as status
 use Rattle.answering.proofs.AnswerLemmas.{Answers, complete, wrote, acted, of_told, of_fits, written_fits}
 use Rattle.checking.proofs.HeadlineLemmas.{certified_output, refused_output}
-use Rattle.simulating.specs.Outputs.{SimulateOutput, IsCertifiedText, status_of}
-use Rattle.simulating.specs.Outputs as simulating
-use Rattle.simulating.specs.Simulated.{IsSimulated}
-use Rattle.simulating.specs.Steps.{HasSimulated}
-use Rattle.simulating.proofs.SimulationLemmas.{EventsUnread, simulated, leaves_events, event_fault, never_usage_of}
+use Rattle.following.specs.Followed.{IsFollowed}
+use Rattle.following.specs.Outputs.{FollowOutput, IsCertifiedText, status_of, texts_of}
+use Rattle.following.specs.Outputs as following
+use Rattle.following.specs.Steps.{HasFollowed}
+use Rattle.following.specs.declared.event_action.EventAction.{EventAction}
+use Rattle.following.specs.declared.event_action.EventAction.TheVariants as event_action
+use Rattle.following.proofs.FollowLemmas.{EventsUnread, followed, leaves_events, event_fault, never_usage_of}
 use Rattle.demonstrating.specs.Steps.{HasDemonstrated}
 use Rattle.demonstrating.specs.Summary.{IsSummary}
 use Rattle.demonstrating.proofs.DemoLemmas.{demonstrated, demonstrated_fits}
-use Rattle.rsml.specs.Commands.{Command, act, simulate, demo, version, command_of, specification_file, Names}
+use Rattle.rsml.specs.Commands.{Command, act, follow, demo, version, command_of, specification_file, Names}
 use Rattle.rsml.specs.Commands as commands
 use Rattle.rsml.specs.Output.{ActionOutput, Output}
 use Rattle.rsml.specs.Output as output
-use Rattle.rsml.specs.Promises.{Meeting, Runs, Tells, SomeReadRefused, ReadFaultOutput, Certifies, Refuses, Traces, Demonstrates, Checks, IsTraced, CountsRise, answers_of}
+use Rattle.rsml.specs.Promises.{Meeting, Runs, Tells, SomeReadRefused, ReadFaultOutput, Certifies, Refuses, TellsOnlyRun, Traces, Covers, Demonstrates, Checks, IsOfOnlyRun, CountsRise, answers_of}
 use Rattle.rsml.specs.Promises as promises
 use Rattle.rsml.specs.Steps.{HasObeyed}
 use Rattle.rsml.specs.Version.{version_text}
@@ -43,10 +45,10 @@ same_some x y e = ap (λ o. elim o [ Some z ↦ z | None ↦ x ]) e
 abbrev AnswersOf : Meeting → Status → Type 0
 AnswersOf m answer = Answers (Bytes → Bytes) (Tells m) (Output m.words) (SomeReadRefused m) (ReadFaultOutput m) m.sink answer
 
--- what holds of the files of `simulate` alone
-abbrev OfSimulate : (Bytes → Bytes → Type 0) → Command → Type 0
-OfSimulate P (simulate file events) = P file events
-OfSimulate P _ = ⊤
+-- what holds of the files of a command alone that follows an event file
+abbrev OfFollow : (Bytes → Bytes → Type 0) → Command → Type 0
+OfFollow P (follow does file events) = P file events
+OfFollow P _ = ⊤
 
 -- what it left of other files and of the counts
 pub record LeftOver (m : Meeting) (names : Bytes → Type 0) : Type 0 where
@@ -63,11 +65,11 @@ module _ (m : Meeting) (answer : Status) (c : Command) (is : command_of m.words 
 
   -- its promises, from what it answered, and what each of them is of its kind
   all_runs : AnswersOf m answer → LeftOver m (Names c) → Contains (answers_of c) answer → answer ≢ status.Usage
-      → Certifies m answer → Refuses m answer → Traces m answer → Demonstrates m answer
-      → OfSimulate (λ file events. file ≢ events → ((m.file events).reach_after ≡ (m.file events).reach) ⊎ IsSimulated (m.file file) (m.file events) answer) c
-      → OfSimulate (λ file events. answer ≡ status.EventFault → IsSimulated (m.file file) (m.file events) answer) c
+      → Certifies m answer → Refuses m answer → Traces m answer → Covers m answer → Demonstrates m answer
+      → OfFollow (λ file events. file ≢ events → ((m.file events).reach_after ≡ (m.file events).reach) ⊎ IsFollowed (m.file file) (m.file events) answer) c
+      → OfFollow (λ file events. answer ≡ status.EventFault → IsFollowed (m.file file) (m.file events) answer) c
       → Runs m answer
-  all_runs h left fits no_usage certifies refuses traces demonstrates unread fault = record {
+  all_runs h left fits no_usage certifies refuses traces covers demonstrates unread fault = record {
     answered = h.answered;
     usage = record { usage = λ none. absurd (cc (none, is)); only = λ e. absurd (no_usage e) };
     no_memory = h.no_memory;
@@ -78,15 +80,16 @@ module _ (m : Meeting) (answer : Status) (c : Command) (is : command_of m.words 
     certified = certifies;
     refused = refuses;
     traced = traces;
+    covered = covers;
     demonstrated = demonstrates;
     others = λ file n. left.others file (λ names. n c is names);
-    unread_events = λ file events e.
-        given (OfSimulate (λ file events. file ≢ events → ((m.file events).reach_after ≡ (m.file events).reach) ⊎ IsSimulated (m.file file) (m.file events) answer))
-        unread (simulate file events) e;
+    unread_events = λ does file events e.
+        given (OfFollow (λ file events. file ≢ events → ((m.file events).reach_after ≡ (m.file events).reach) ⊎ IsFollowed (m.file file) (m.file events) answer))
+        unread (follow does file events) e;
     fits = record {
       command = given (λ d. Contains (answers_of d) answer) fits;
-      event_fault = λ f file events e.
-          given (OfSimulate (λ file events. answer ≡ status.EventFault → IsSimulated (m.file file) (m.file events) answer)) fault (simulate file events) e f;
+      event_fault = λ f does file events e.
+          given (OfFollow (λ file events. answer ≡ status.EventFault → IsFollowed (m.file file) (m.file events) answer)) fault (follow does file events) e f;
     };
     counts = left.counts;
   }
@@ -96,7 +99,7 @@ module _ (m : Meeting) (answer : Status) (c : Command) (is : command_of m.words 
 -- the action of a command, and another's in its place
 abbrev action_in : Action → Command → Action
 action_in other (act does file) = does
-action_in other (simulate file events) = other
+action_in other (follow does file events) = other
 action_in other (demo n) = other
 action_in other version = other
 
@@ -153,77 +156,82 @@ module _ (m : Meeting) (answer : Status) (does : Action) (file : Bytes) (is : co
   runs_action : Runs m answer
   runs_action =
       all_runs m answer (act does file) is acted_answers left acted_fits acted_usage certifies refuses
-      (λ e text content c. absurd (cc (is, c.command))) (λ e n c. absurd (cc (is, c))) tt tt
+      (λ e text content c. absurd (cc (is, c.command))) (λ e text content c. absurd (cc (is, c.command))) (λ e n c. absurd (cc (is, c))) tt tt
 
--- `simulate`.
+-- A command that follows an event file.
 
 fault_not_done : (f : FileFault) → status_of (end_of f) ≢ status.Done
 fault_not_done (long_line n) e = cc e
 fault_not_done (broken_line n rule) e = cc e
 fault_not_done long_file e = cc e
 
--- where it ends with Done, the only run was written
-traced : (s : Spec) (content : Bytes) (ended : SimEnd) (bytes text : Bytes) → status_of ended ≡ status.Done → IsCertifiedText text s
-    → simulation.Output s program_limits content ended bytes → IsTraced s content bytes
-traced s content ended bytes text e c (done rs formed is_run _ is) =
+-- where it ends with Done, what it writes of the only run was written
+of_only_run : (does : EventAction) (s : Spec) (content : Bytes) (ended : SimEnd) (bytes text : Bytes) → status_of ended ≡ status.Done
+    → IsCertifiedText text s → events_file.Output (texts_of does) s program_limits content ended bytes → IsOfOnlyRun does s content bytes
+of_only_run does s content ended bytes text e c (done rs formed is_run _ is) =
     let one = c.deterministic.one_run content formed in
     record { well_formed = formed; run = rs; is_run = is_run; only = λ other r. one.only other r ∙ sym (one.only rs is_run); text = is }
-traced s content ended bytes text e c (faulty f rs _ _ is _) = absurd (fault_not_done f (ap status_of (sym is) ∙ e))
+of_only_run does s content ended bytes text e c (faulty f rs _ _ is _) = absurd (fault_not_done f (ap status_of (sym is) ∙ e))
 
-traced_output : (text content : Bytes) (answer : Status) (bytes : Bytes) → answer ≡ status.Done → SimulateOutput text content answer bytes
-    → (s : Spec) × IsCertifiedText text s × IsTraced s content bytes
-traced_output text content answer bytes e (simulating.checked not_done _) = absurd (not_done e)
-traced_output text content answer bytes e (simulating.SimulateOutput.simulated s ended c o is) =
-    (s, c, traced s content ended bytes text (sym is ∙ e) c o)
+done_output : (does : EventAction) (text content : Bytes) (answer : Status) (bytes : Bytes) → answer ≡ status.Done
+    → FollowOutput does text content answer bytes → (s : Spec) × IsCertifiedText text s × IsOfOnlyRun does s content bytes
+done_output does text content answer bytes e (following.checked not_done _) = absurd (not_done e)
+done_output does text content answer bytes e (following.FollowOutput.followed s ended c o is) =
+    (s, c, of_only_run does s content ended bytes text (sym is ∙ e) c o)
 
 abbrev events_of : Bytes → Command → Bytes
 events_of other (act does file) = other
-events_of other (simulate file events) = events
+events_of other (follow does file events) = events
 events_of other (demo n) = other
 events_of other version = other
 
-module _ (m : Meeting) (answer : Status) (file events : Bytes) (is : command_of m.words ≡ Some (simulate file events))
-    (h : HasSimulated file events m.file m.sink answer) (left : LeftOver m (Names (simulate file events))) where
-  names_specification : Names (simulate file events) file
-  names_specification = commands.specification (simulate file events) file refl
+-- the action of a command on an event file, and another's in its place
+abbrev event_action_in : EventAction → Command → EventAction
+event_action_in other (follow does file events) = does
+event_action_in other _ = other
+
+module _ (m : Meeting) (answer : Status) (does : EventAction) (file events : Bytes) (is : command_of m.words ≡ Some (follow does file events))
+    (h : HasFollowed does file events m.file m.sink answer) (left : LeftOver m (Names (follow does file events))) where
+  names_specification : Names (follow does file events) file
+  names_specification = commands.specification (follow does file events) file refl
 
   specification_unread : (contents : Bytes → Bytes) → ReadRefused (m.file file) → ReadFaultOutput m contents lines.read
-  specification_unread contents rose = promises.ReadFaultOutput.specification (simulate file events, file, is, refl, rose) refl
+  specification_unread contents rose = promises.ReadFaultOutput.specification (follow does file events, file, is, refl, rose) refl
 
-  events_are_unread : (contents : Bytes → Bytes) (bytes : Bytes) → EventsUnread file events (m.file events) (contents file) (contents events) bytes
-      → ReadFaultOutput m contents bytes
+  events_are_unread : (contents : Bytes → Bytes) (bytes : Bytes)
+      → EventsUnread does file events (m.file events) (contents file) (contents events) bytes → ReadFaultOutput m contents bytes
   events_are_unread contents bytes u =
-      promises.ReadFaultOutput.events events u.read (record { file = file; command = is; refused = u.refused; reach = u.reach })
-      (record { file = file; command = is; spec = u.spec; certified = u.certified; output = u.output })
+      promises.ReadFaultOutput.events events u.read (record { does = does; file = file; command = is; refused = u.refused; reach = u.reach })
+      (record { does = does; file = file; command = is; spec = u.spec; certified = u.certified; output = u.output })
 
-  simulated_answers : AnswersOf m answer
-  simulated_answers =
-      simulated (Bytes → Bytes) (Tells m) (Output m.words) (SomeReadRefused m) (ReadFaultOutput m) m.sink answer file events m.file
-      (λ contents. contents file) (λ contents. contents events) (λ contents told. told (simulate file events) file is names_specification)
-      (λ contents told. told (simulate file events) events is (commands.events file events))
-      (λ contents wanted bytes o. output.Output.simulated file events is o) (named m answer (simulate file events) is file names_specification)
-      (named m answer (simulate file events) is events (commands.events file events)) specification_unread events_are_unread h
+  followed_answers : AnswersOf m answer
+  followed_answers =
+      followed (Bytes → Bytes) (Tells m) (Output m.words) (SomeReadRefused m) (ReadFaultOutput m) does m.sink answer file events m.file
+      (λ contents. contents file) (λ contents. contents events) (λ contents told. told (follow does file events) file is names_specification)
+      (λ contents told. told (follow does file events) events is (commands.events does file events))
+      (λ contents wanted bytes o. output.Output.followed does file events is o) (named m answer (follow does file events) is file names_specification)
+      (named m answer (follow does file events) is events (commands.events does file events)) specification_unread events_are_unread h
 
   -- of a text and the contents of an event file that were told
   output_of : (text content : Bytes) → (m.file file).told ≡ Some text → (m.file events).told ≡ Some content → answer ≢ status.NoMemory
-      → answer ≢ status.ReadFault → answer ≢ status.WriteFault → (bytes : Bytes) × SimulateOutput text content answer bytes × Writes m.sink bytes
+      → answer ≢ status.ReadFault → answer ≢ status.WriteFault → (bytes : Bytes) × FollowOutput does text content answer bytes × Writes m.sink bytes
   output_of text content told told_events no_memory no_read no_write =
       let all =
-      simulated Bytes (λ c. (m.file events).told ≡ Some c) (λ c. SimulateOutput text c) (ReadRefused (m.file file) ⊎ ReadRefused (m.file events)) (λ c bytes. ⊤)
-      m.sink answer file events m.file (λ c. text) (λ c. c) (λ c _. told) (λ c t. t) (λ c wanted bytes o. o) (λ r. inl r) (λ r. inr r) (λ c r. tt)
+      followed Bytes (λ c. (m.file events).told ≡ Some c) (λ c. FollowOutput does text c) (ReadRefused (m.file file) ⊎ ReadRefused (m.file events)) (λ c bytes. ⊤)
+      does m.sink answer file events m.file (λ c. text) (λ c. c) (λ c _. told) (λ c t. t) (λ c wanted bytes o. o) (λ r. inl r) (λ r. inr r) (λ c r. tt)
       (λ c bytes u. tt) h in
       all.answered no_memory no_read no_write content told_events
 
-  traces : Traces m answer
-  traces e text content c =
-      let same = same_some (simulate file events) (simulate c.file c.events) (sym is ∙ c.command) in
+  tells : (action : EventAction) → TellsOnlyRun action m answer
+  tells action e text content c =
+      let same = same_some (follow does file events) (follow action c.file c.events) (sym is ∙ c.command) in
       let of_file = subst (λ (f : Bytes). (m.file f).told ≡ Some text) (sym (same_some file c.file (ap specification_file same))) c.told in
       let of_events = subst (λ (f : Bytes). (m.file f).told ≡ Some content) (sym (ap (events_of events) same)) c.told_events in
       let o = output_of text content of_file of_events (λ f. absurd (cc (e, f))) (λ f. absurd (cc (e, f))) (λ f. absurd (cc (e, f))) in
-      let r = traced_output text content answer o.0 e o.1 in
-      (r.0, o.0, r.1, r.2, o.2)
+      let r = done_output does text content answer o.0 e o.1 in
+      (r.0, o.0, r.1, subst (λ (a : EventAction). IsOfOnlyRun a r.0 content o.0) (ap (event_action_in does) same) r.2, o.2)
 
-  all_but_usage : (a : Status) → answer ≡ a → answer ≢ status.Usage → Contains (answers_of (simulate file events)) answer
+  all_but_usage : (a : Status) → answer ≡ a → answer ≢ status.Usage → Contains (answers_of (follow does file events)) answer
   all_but_usage status.EventFault e _ = (0, lit< tt, sym e)
   all_but_usage status.Done e _ = (1, lit< tt, sym e)
   all_but_usage status.Refused e _ = (2, lit< tt, sym e)
@@ -234,12 +242,12 @@ module _ (m : Meeting) (answer : Status) (file events : Bytes) (is : command_of 
   all_but_usage status.NoMemory e _ = (7, lit< tt, sym e)
   all_but_usage status.Usage e n = absurd (n e)
 
-  runs_simulation : Runs m answer
-  runs_simulation =
-      let no_usage = never_usage_of file events m.file m.sink answer h in
-      all_runs m answer (simulate file events) is simulated_answers left (all_but_usage answer refl no_usage) no_usage
-      (λ e text c. absurd (cc (is, c.command))) (λ e text c. absurd (cc (is, c.command))) traces (λ e n c. absurd (cc (is, c)))
-      (leaves_events file events m.file m.sink answer h) (event_fault file events m.file m.sink answer h)
+  runs_following : Runs m answer
+  runs_following =
+      let no_usage = never_usage_of does file events m.file m.sink answer h in
+      all_runs m answer (follow does file events) is followed_answers left (all_but_usage answer refl no_usage) no_usage
+      (λ e text c. absurd (cc (is, c.command))) (λ e text c. absurd (cc (is, c.command))) (tells event_action.Simulate) (tells event_action.Cover)
+      (λ e n c. absurd (cc (is, c))) (leaves_events does file events m.file m.sink answer h) (event_fault does file events m.file m.sink answer h)
 
 -- `demo`.
 
@@ -272,7 +280,8 @@ module _ (m : Meeting) (answer : Status) (n : ℕ) (is : command_of m.words ≡ 
       all_runs m answer (demo n) is demo_answers left
       (demonstrated_fits n m.sink answer (λ a. Contains (answers_of (demo n)) a) (0, lit< tt, refl) (2, lit< tt, refl) (1, lit< tt, refl) h)
       (demonstrated_fits n m.sink answer (λ a. a ≢ status.Usage) (λ f. cc f) (λ f. cc f) (λ f. cc f) h)
-      (λ e text c. absurd (cc (is, c.command))) (λ e text c. absurd (cc (is, c.command))) (λ e text content c. absurd (cc (is, c.command))) demonstrates tt tt
+      (λ e text c. absurd (cc (is, c.command))) (λ e text c. absurd (cc (is, c.command))) (λ e text content c. absurd (cc (is, c.command)))
+      (λ e text content c. absurd (cc (is, c.command))) demonstrates tt tt
 
 -- `version`.
 
@@ -286,13 +295,13 @@ module _ (m : Meeting) (answer : Status) (is : command_of m.words ≡ Some versi
       (written_fits (λ a. Contains (answers_of version) a) m.sink version_text status.Done answer w (0, lit< tt, refl) (1, lit< tt, refl))
       (written_fits (λ a. a ≢ status.Usage) m.sink version_text status.Done answer w (λ f. cc f) (λ f. cc f))
       (λ e text c. absurd (cc (is, c.command))) (λ e text c. absurd (cc (is, c.command))) (λ e text content c. absurd (cc (is, c.command)))
-      (λ e n c. absurd (cc (is, c))) tt tt
+      (λ e text content c. absurd (cc (is, c.command))) (λ e n c. absurd (cc (is, c))) tt tt
 
 -- what `run` promises, from what the command that the words are leaves
 pub runs_command : (m : Meeting) (answer : Status) (c : Command) → command_of m.words ≡ Some c → HasObeyed c m.file m.sink answer
     → LeftOver m (Names c) → Runs m answer
 runs_command m answer (act does file) is h left = runs_action m answer does file is h left
-runs_command m answer (simulate file events) is h left = runs_simulation m answer file events is h left
+runs_command m answer (follow does file events) is h left = runs_following m answer does file events is h left
 runs_command m answer (demo n) is h left = runs_demo m answer n is h left
 runs_command m answer version is h left = runs_version m answer is h left
 
@@ -321,9 +330,10 @@ module _ (m : Meeting) (answer : Status) (none : command_of m.words ≡ None) (w
     certified = λ e text c. absurd (cc (none, c.command));
     refused = λ e text c. absurd (cc (none, c.command));
     traced = λ e text content c. absurd (cc (none, c.command));
+    covered = λ e text content c. absurd (cc (none, c.command));
     demonstrated = λ e n c. absurd (cc (none, c));
     others = λ file _. left.others file (λ f. f);
-    unread_events = λ file events c. absurd (cc (none, c));
-    fits = record { command = λ c e. absurd (cc (none, e)); event_fault = λ _ file events c. absurd (cc (none, c)) };
+    unread_events = λ does file events c. absurd (cc (none, c));
+    fits = record { command = λ c e. absurd (cc (none, e)); event_fault = λ _ does file events c. absurd (cc (none, c)) };
     counts = left.counts;
   }

@@ -8,7 +8,8 @@ use Rattle.std.proofs.lemmas.Bool.Decides.{nat_tests}
 use Rattle.std.proofs.lemmas.List.{drop_all, drop_more}
 use Rattle.rsml_meaning.specs.EventLines.{Bytes, digits_number}
 use Rattle.rsml_syntax.specs.text.Names.{same}
-use Rattle.rsml.specs.Commands.{Command, act, simulate, demo, version, command_of, with_file, action_of, AreUnits}
+use Rattle.following.specs.declared.event_action.EventAction.{EventAction}
+use Rattle.rsml.specs.Commands.{Command, act, follow, demo, version, command_of, with_file, with_files, action_of, event_action_of, AreUnits}
 use Rattle.rsml.specs.Units.{most, within_64, units_of}
 use Rattle.rsml.specs.declared.command.Action.{Action}
 
@@ -72,7 +73,7 @@ units_within word n e = by (digits_number word) e
 
 pub are_units : (words : List Bytes) (c : Command) → command_of words ≡ Some c → AreUnits c
 are_units words (act does file) e = tt
-are_units words (simulate file events) e = tt
+are_units words (follow does file events) e = tt
 are_units words version e = tt
 are_units [] (demo n) e = absurd (let no : ⊥ = cc in no)
 are_units (word ∷ []) (demo n) e = by (same word (codes "version")) e
@@ -93,9 +94,9 @@ are_units (word ∷ file ∷ []) (demo n) e = by_word (same word (codes "demo"))
     by_word : (b : Bool) → (if b then option_map demo (units_of file) else option_map (with_file file) (action_of word)) ≡ Some (demo n) → (1 ≤ n) × (n ≤ 64)
     by_word true f = by_units (units_of file) refl f
     by_word false f = by_action (action_of word) f
-are_units (word ∷ file ∷ events ∷ []) (demo n) e = by (same word (codes "simulate")) e
+are_units (word ∷ file ∷ events ∷ []) (demo n) e = by (event_action_of word) e
   where
-    by : (b : Bool) → (if b then Some (simulate file events) else None) ≡ Some (demo n) → (1 ≤ n) × (n ≤ 64)
-    by true f = absurd (let no : ⊥ = cc in no)
-    by false f = absurd (let no : ⊥ = cc in no)
+    by : (o : Option EventAction) → option_map (with_files file events) o ≡ Some (demo n) → (1 ≤ n) × (n ≤ 64)
+    by None f = absurd (let no : ⊥ = cc in no)
+    by (Some does) f = absurd (let no : ⊥ = cc in no)
 are_units (word ∷ file ∷ events ∷ more ∷ words) (demo n) e = absurd (let no : ⊥ = cc in no)

@@ -2,6 +2,8 @@
 use Rattle.std.specs.Prelude.{ℕ, ◌≡◌, ◌≤◌, true, false, List, [], ◌∷◌, Option, Some, None, codes, option_map, if◌then◌else◌, ⊤}
 use Rattle.rsml_meaning.specs.EventLines.{Bytes}
 use Rattle.rsml_syntax.specs.text.Names.{same}
+use Rattle.following.specs.declared.event_action.EventAction.{EventAction}
+use Rattle.following.specs.declared.event_action.EventAction.TheVariants as event_action
 use Rattle.rsml.specs.Units.{units_of}
 use Rattle.rsml.specs.declared.command.Action.{Action}
 use Rattle.rsml.specs.declared.command.Action.TheVariants as action
@@ -19,12 +21,19 @@ action_of word = elim (same word (codes "check")) [
   ]
 ]
 
+-- the action of this word on an event file
+abbrev pub event_action_of : Bytes → Option EventAction
+event_action_of word = elim (same word (codes "simulate")) [
+  | true ↦ Some event_action.Simulate
+  | false ↦ elim (same word (codes "cover")) [ true ↦ Some event_action.Cover | false ↦ None ]
+]
+
 -- What is asked for, by the names of files or the number of units:
 pub data Command : Type 0 where
   -- an action on a specification
   act : Action → Bytes → Command
-  -- the simulation of a specification over an event file
-  simulate : Bytes → Bytes → Command
+  -- an action on a specification and an event file
+  follow : EventAction → Bytes → Bytes → Command
   -- the summary of the generated specification and events of so many units
   demo : ℕ → Command
   -- which program this is
@@ -34,11 +43,15 @@ pub data Command : Type 0 where
 abbrev pub with_file : Bytes → Action → Command
 with_file file action = act action file
 
+-- this action on these files
+abbrev pub with_files : Bytes → Bytes → EventAction → Command
+with_files file events action = follow action file events
+
 -- the command that the words are, if they are one
 abbrev pub command_of : List Bytes → Option Command
 command_of (word ∷ []) = if same word (codes "version") then Some version else None
 command_of (word ∷ file ∷ []) = if same word (codes "demo") then option_map demo (units_of file) else option_map (with_file file) (action_of word)
-command_of (word ∷ file ∷ events ∷ []) = if same word (codes "simulate") then Some (simulate file events) else None
+command_of (word ∷ file ∷ events ∷ []) = option_map (with_files file events) (event_action_of word)
 command_of _ = None
 
 -- the units are from 1 to 64
@@ -49,11 +62,11 @@ AreUnits _ = ⊤
 -- the file of the command's specification, if it reads one
 abbrev pub specification_file : Command → Option Bytes
 specification_file (act action file) = Some file
-specification_file (simulate file events) = Some file
+specification_file (follow action file events) = Some file
 specification_file (demo n) = None
 specification_file version = None
 
 -- the command names this file
 pub data Names : Command → Bytes → Type 0 where
   specification : (c : Command) (file : Bytes) → specification_file c ≡ Some file → Names c file
-  events : (file events : Bytes) → Names (simulate file events) events
+  events : (action : EventAction) (file events : Bytes) → Names (follow action file events) events

@@ -4,17 +4,18 @@ use Rattle.rsml_syntax.specs.declared.syntax.Spec.{Spec}
 use Rattle.rsml_meaning.specs.EventFiles.{program_limits, lines_of, IsWellFormed}
 use Rattle.rsml_meaning.specs.EventLines.{Bytes}
 use Rattle.rsml_meaning.specs.Runs.{Reaction, IsRun}
-use Rattle.rsml_meaning.specs.Trace.{whole_trace}
 use Rattle.judging.specs.Headline.{IsCertificate, IsRefusal}
 use Rattle.judging.specs.Texts.{IsTextOf}
 use Rattle.answering.specs.Lines as lines
 use Rattle.answering.specs.Uses.{FileUse, SinkUse, ReadRefused, WriteRefused, Writes, WritesPrefix, WritesNothing}
 use Rattle.answering.specs.declared.status.Status.{Status}
 use Rattle.answering.specs.declared.status.Status.TheVariants as status
-use Rattle.simulating.specs.Outputs.{IsCertifiedText}
-use Rattle.simulating.specs.Simulated.{IsSimulated}
+use Rattle.following.specs.Followed.{IsFollowed}
+use Rattle.following.specs.Outputs.{IsCertifiedText, texts_of}
+use Rattle.following.specs.declared.event_action.EventAction.{EventAction}
+use Rattle.following.specs.declared.event_action.EventAction.TheVariants as event_action
 use Rattle.demonstrating.specs.Summary.{IsSummary}
-use Rattle.rsml.specs.Commands.{Command, act, simulate, demo, version, command_of, specification_file, Names}
+use Rattle.rsml.specs.Commands.{Command, act, follow, demo, version, command_of, specification_file, Names}
 use Rattle.rsml.specs.Output.{Output, ReadOutput}
 use Rattle.rsml.specs.declared.command.Action.TheVariants as action
 
@@ -39,8 +40,9 @@ SomeReadRefused m = (c : Command) × (file : Bytes) × (command_of m.words ≡ S
 -- A read of the event file was refused, when so many of its bytes had been read: its reach, where that is told and the specification is
 -- another file.
 pub record EventReadRefused (m : Meeting) (events : Bytes) (k : ℕ) : Type 0 where
+  pub does : EventAction
   pub file : Bytes
-  pub command : command_of m.words ≡ Some (simulate file events)
+  pub command : command_of m.words ≡ Some (follow does file events)
   pub refused : ReadRefused (m.file events)
   pub reach : file ≢ events → (m.file events).reach ≡ Some 0 → (m.file events).reach_after ≡ Some k
 
@@ -54,7 +56,8 @@ abbrev pub IsAnswered : Meeting → Status → Type 0
 IsAnswered m answer = answer ≢ status.NoMemory → answer ≢ status.ReadFault → answer ≢ status.WriteFault
     → (contents : Bytes → Bytes) → Tells m contents → (bytes : Bytes) × Output m.words contents answer bytes × Writes m.sink bytes
 
--- What was to be written where a read was refused: the line on it, or behind the trace of the lines of the event file that had been read.
+-- What was to be written where a read was refused: the line on it, which of `simulate` stands behind the trace of the lines of the event file
+-- that had been read.
 pub data ReadFaultOutput (m : Meeting) (contents : Bytes → Bytes) (bytes : Bytes) : Type 0 where
   specification : SpecificationReadRefused m → bytes ≡ lines.read → ReadFaultOutput m contents bytes
   events : (events : Bytes) (k : ℕ) → EventReadRefused m events k → ReadOutput m.words contents events k bytes
@@ -92,26 +95,35 @@ abbrev pub Refuses : Meeting → Status → Type 0
 Refuses m answer = answer ≡ status.Refused → (text : Bytes) → Checks m text
     → (s : Spec) × (bytes : Bytes) × IsTextOf text s × IsRefusal s bytes × Writes m.sink bytes
 
--- The command is `simulate`, and its files told this text and these events.
-pub record Simulates (m : Meeting) (text content : Bytes) : Type 0 where
+-- The command follows an event file, and its files told this text and these events.
+pub record Follows (m : Meeting) (does : EventAction) (text content : Bytes) : Type 0 where
   pub file : Bytes
   pub events : Bytes
-  pub command : command_of m.words ≡ Some (simulate file events)
+  pub command : command_of m.words ≡ Some (follow does file events)
   pub told : (m.file file).told ≡ Some text
   pub told_events : (m.file events).told ≡ Some content
 
--- Of a certified specification the event file is well-formed, and the bytes are the trace of its only run.
-pub record IsTraced (s : Spec) (content bytes : Bytes) : Type 0 where
+-- Of a certified specification the event file is well-formed, and the bytes are what an action writes of its only run.
+pub record IsOfOnlyRun (does : EventAction) (s : Spec) (content bytes : Bytes) : Type 0 where
   pub well_formed : IsWellFormed s program_limits content
   pub run : List Reaction
   pub is_run : IsRun s (lines_of content) run
   pub only : (other : List Reaction) → IsRun s (lines_of content) other → other ≡ run
-  pub text : bytes ≡ whole_trace s run
+  pub text : bytes ≡ (texts_of does).whole s run
 
--- Where `simulate` ends with Done, the text reads as a specification that is certified, and the trace of the only run was written.
+-- Where a command that follows an event file ends with Done, the text reads as a specification that is certified, and what it writes of the
+-- only run was written.
+abbrev pub TellsOnlyRun : EventAction → Meeting → Status → Type 0
+TellsOnlyRun does m answer = answer ≡ status.Done → (text content : Bytes) → Follows m does text content
+    → (s : Spec) × (bytes : Bytes) × IsCertifiedText text s × IsOfOnlyRun does s content bytes × Writes m.sink bytes
+
+-- so `simulate` writes the trace of the only run
 abbrev pub Traces : Meeting → Status → Type 0
-Traces m answer = answer ≡ status.Done → (text content : Bytes) → Simulates m text content
-    → (s : Spec) × (bytes : Bytes) × IsCertifiedText text s × IsTraced s content bytes × Writes m.sink bytes
+Traces = TellsOnlyRun event_action.Simulate
+
+-- and `cover` how often the only run takes each transition, and makes each column true
+abbrev pub Covers : Meeting → Status → Type 0
+Covers = TellsOnlyRun event_action.Cover
 
 -- Where `demo` ends with Done, the summary of its units was written.
 abbrev pub Demonstrates : Meeting → Status → Type 0
@@ -121,10 +133,10 @@ Demonstrates m answer = answer ≡ status.Done → (n : ℕ) → command_of m.wo
 abbrev pub LeavesOthers : Meeting → Type 0
 LeavesOthers m = (file : Bytes) → ((c : Command) → command_of m.words ≡ Some c → Names c file → ⊥) → (m.file file).reach_after ≡ (m.file file).reach
 
--- Of the event file, where it is another than the specification, nothing is read but to simulate a certified specification.
+-- Of the event file, where it is another than the specification, nothing is read but to follow it by a certified specification.
 abbrev pub LeavesEvents : Meeting → Status → Type 0
-LeavesEvents m answer = (file events : Bytes) → command_of m.words ≡ Some (simulate file events) → file ≢ events
-    → ((m.file events).reach_after ≡ (m.file events).reach) ⊎ IsSimulated (m.file file) (m.file events) answer
+LeavesEvents m answer = (does : EventAction) (file events : Bytes) → command_of m.words ≡ Some (follow does file events) → file ≢ events
+    → ((m.file events).reach_after ≡ (m.file events).reach) ⊎ IsFollowed (m.file file) (m.file events) answer
 
 -- the statuses with which `check` and `explain` can end
 abbrev pub judged_answers : List Status
@@ -140,23 +152,23 @@ answers_of (act action.Check _) = judged_answers
 answers_of (act action.Explain _) = judged_answers
 answers_of (act action.Format _) = layout_answers
 answers_of (act action.Migrate _) = layout_answers
-answers_of (simulate _ _) = status.EventFault ∷ judged_answers
+answers_of (follow _ _ _) = status.EventFault ∷ judged_answers
 answers_of (demo _) = status.Done ∷ status.WriteFault ∷ status.NoMemory ∷ []
 answers_of version = status.Done ∷ status.WriteFault ∷ []
 
 -- A command ends with one of its statuses, whether its files tell what they hold or not; and with a fault of the event file only where it
--- simulated a certified specification.
+-- followed it by a certified specification.
 pub record FitsCommand (m : Meeting) (answer : Status) : Type 0 where
   pub command : (c : Command) → command_of m.words ≡ Some c → Contains (answers_of c) answer
-  pub event_fault : answer ≡ status.EventFault → (file events : Bytes) → command_of m.words ≡ Some (simulate file events)
-      → IsSimulated (m.file file) (m.file events) answer
+  pub event_fault : answer ≡ status.EventFault → (does : EventAction) (file events : Bytes) → command_of m.words ≡ Some (follow does file events)
+      → IsFollowed (m.file file) (m.file events) answer
 
 -- The counts of refused reads and writes do not fall.
 pub record CountsRise (m : Meeting) : Type 0 where
   pub reads : (file : Bytes) → (m.file file).refusals ≤ (m.file file).refusals_after
   pub writes : m.sink.refusals ≤ m.sink.refusals_after
 
--- All that `run` promises; the headline is in the fields `certified`, `refused`, `traced` and `demonstrated`.
+-- All that `run` promises; the headline is in the fields `certified`, `refused`, `traced`, `covered` and `demonstrated`.
 pub record Runs (m : Meeting) (answer : Status) : Type 0 where
   pub answered : IsAnswered m answer
   pub usage : IsUsage m answer
@@ -168,6 +180,7 @@ pub record Runs (m : Meeting) (answer : Status) : Type 0 where
   pub certified : Certifies m answer
   pub refused : Refuses m answer
   pub traced : Traces m answer
+  pub covered : Covers m answer
   pub demonstrated : Demonstrates m answer
   pub others : LeavesOthers m
   pub unread_events : LeavesEvents m answer

@@ -5,15 +5,15 @@ use Rattle.answering.specs.Uses.{FileUse, SinkUse}
 use Rattle.answering.specs.Writing.{HasWritten}
 use Rattle.answering.specs.declared.status.Status.{Status}
 use Rattle.answering.specs.declared.status.Status.TheVariants as status
-use Rattle.simulating.specs.Steps.{HasSimulated}
+use Rattle.following.specs.Steps.{HasFollowed}
 use Rattle.demonstrating.specs.Steps.{HasDemonstrated}
-use Rattle.rsml.specs.Commands.{Command, act, simulate, demo, version}
+use Rattle.rsml.specs.Commands.{Command, act, follow, demo, version}
 use Rattle.rsml.specs.Output.{ActionOutput}
 use Rattle.rsml.specs.Version.{version_text}
 
 -- what a command left of its files and of the sink, and how it ended
 abbrev pub HasObeyed : Command → (Bytes → FileUse) → SinkUse → Status → Type 0
 HasObeyed (act action file) files k answer = HasActed (ActionOutput action) (files file) k answer
-HasObeyed (simulate file events) files k answer = HasSimulated file events files k answer
+HasObeyed (follow does file events) files k answer = HasFollowed does file events files k answer
 HasObeyed (demo n) files k answer = HasDemonstrated n k answer
 HasObeyed version files k answer = HasWritten k version_text status.Done answer

@@ -1,8 +1,9 @@
 ghost use Rattle.std.specs.Prelude.{◌≡◌, map, option_map, string_bytes};
 ghost use Rattle.rsml.specs.Asked.{asked};
-ghost use Rattle.rsml.specs.Commands.{action_of, command_of};
+ghost use Rattle.rsml.specs.Commands.{action_of, command_of, event_action_of};
 
 use crate::units::units_in;
+use following::EventAction;
 
 /// What a command does with a specification.
 #[derive(Clone, Copy, Debug, PartialEq, Eq)]
@@ -21,11 +22,20 @@ pub enum Action {
 #[derive(Clone, Copy, Debug)]
 pub enum Command<'a> {
     /// An action on a specification.
-    Act { action: Action, file: &'a str },
-    /// The simulation of a specification over an event file.
-    Simulate { file: &'a str, events: &'a str },
+    Act {
+        action: Action,
+        file: &'a str,
+    },
+    /// An action on a specification and an event file.
+    Follow {
+        action: EventAction,
+        file: &'a str,
+        events: &'a str,
+    },
     /// The summary of the generated specification and events of 1 to 64 units.
-    Demo { units: u32 },
+    Demo {
+        units: u32,
+    },
     /// Which program this is.
     Version,
 }
@@ -45,6 +55,19 @@ fn action_called(word: &str) -> Option<Action>
     }
     if word == "migrate" {
         return Some(Action::Migrate);
+    }
+    None
+}
+
+/// The action of a word on an event file.
+fn event_action_called(word: &str) -> Option<EventAction>
+    ensures { result ≡ event_action_of word.now }
+{
+    if word == "simulate" {
+        return Some(EventAction::Simulate);
+    }
+    if word == "cover" {
+        return Some(EventAction::Cover);
     }
     None
 }
@@ -70,12 +93,14 @@ pub fn command_in(words: &[String]) -> Option<Command<'_>>
             Some(Command::Act { action, file })
         }
         [word, file, events] => {
+            let action = event_action_called(word.as_str())?;
             let file = file.as_str();
             let events = events.as_str();
-            if word.as_str() == "simulate" {
-                return Some(Command::Simulate { file, events });
-            }
-            None
+            Some(Command::Follow {
+                action,
+                file,
+                events,
+            })
         }
         _ => None,
     }

@@ -12,6 +12,7 @@ mod version;
 pub use answering::Status;
 pub use command::{Action, Command};
 pub use demonstrating::demo;
+pub use following::EventAction;
 pub use judging::{Judgement, judge};
 pub use laws::an_output_is_one;
 pub use memory::memory_lines;

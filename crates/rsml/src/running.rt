@@ -9,8 +9,8 @@ use crate::command::{Command, command_in};
 use crate::version::VERSION;
 use answering::{Status, answer, finish};
 use demonstrating::demo;
+use following::follow;
 use rsml_io::{Files, Sink};
-use simulating::simulate;
 use std::alloc::Global;
 
 /// Does what a command asks for.
@@ -41,7 +41,11 @@ fn obey<F: Files, K: Sink>(
 {
     match command {
         Command::Act { action, file } => answer(sink, come_to(alloc, action, file, files)),
-        Command::Simulate { file, events } => simulate(alloc, file, events, files, sink),
+        Command::Follow {
+            action,
+            file,
+            events,
+        } => follow(alloc, action, file, events, files, sink),
         Command::Demo { units } => demo(alloc, units, sink),
         Command::Version => finish(sink, VERSION, Status::Done),
     }

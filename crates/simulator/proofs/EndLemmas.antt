@@ -12,9 +12,10 @@ use Rattle.text_writer.specs.Writes.{WriterState, Writes}
 use Rattle.text_writer.specs.Buffering.{Finishes, begins}
 use Rattle.simulator.specs.declared.sim_end.SimEnd.{SimEnd}
 use Rattle.simulator.specs.declared.sim_end.SimEnd.TheVariants as end
-use Rattle.simulator.specs.Outputs.{Output, done, faulty, ReadOutput, fault_line, read_line, rule_number}
+use Rattle.simulator.specs.Outputs.{Output, done, faulty, ReadOutput, traces, fault_line, read_line, rule_number}
 use Rattle.simulator.specs.Simulating.{Meeting, ReadRefused, Simulates, StopsReading}
-use Rattle.simulator.specs.helpers.Progress.{Stands, Counted, EndsSo, Stops, last_line}
+use Rattle.simulator.specs.Ends.{last_line}
+use Rattle.simulator.specs.helpers.Progress.{Stands, Counted, EndsSo, Stops}
 use Rattle.simulator.proofs.StandsLemmas.{one_more_stands, longer_stands, some_stand, counted_writes}
 
 -- what a told fact says of what is told
@@ -23,7 +24,7 @@ of_told {A} P o x h e = let at : IfSome (Some x) P = subst (λ (z : Option A). I
 
 -- Outputs have bytes.
 
-ends_some : (front text : Bytes) → front ++ text_line text ≢ []
+pub ends_some : (front text : Bytes) → front ++ text_line text ≢ []
 ends_some front text e =
     let none : length (front ++ text_line text) ≡ 0 = ap length e in
     let whole = length-append front (text_line text) in
@@ -31,7 +32,7 @@ ends_some front text e =
     let one : length (text_line text) ≡ length text + 1 = line in
     omega (arith, none, whole, one)
 
-fault_some : (front : Bytes) (f : FileFault) → front ++ fault_line f ≢ []
+pub fault_some : (front : Bytes) (f : FileFault) → front ++ fault_line f ≢ []
 fault_some front (long_line n) e = ends_some front (codes "fault line " ++ (decimal n ++ codes " long")) e
 fault_some front (broken_line n rule) e = ends_some front (codes "fault line " ++ (decimal n ++ (codes " E" ++ decimal (rule_number rule)))) e
 fault_some front long_file e = ends_some front (codes "fault long") e
@@ -39,15 +40,15 @@ fault_some front long_file e = ends_some front (codes "fault long") e
 along : (bytes other : Bytes) → bytes ≡ other → other ≢ [] → bytes ≢ []
 along bytes other e some none = some (sym e ∙ none)
 
-output_some : (s : Spec) (limits : Limits) (content : Bytes) (e : SimEnd) (bytes : Bytes) → Output s limits content e bytes → bytes ≢ []
+output_some : (s : Spec) (limits : Limits) (content : Bytes) (e : SimEnd) (bytes : Bytes) → Output traces s limits content e bytes → bytes ≢ []
 output_some s limits content e bytes (done rs well run ended same) = along bytes _ same (ends_some (trace_text s rs) (codes "end " ++ decimal (length rs)))
 output_some s limits content e bytes (faulty f rs first run ended same) = along bytes _ same (fault_some (trace_text s rs) f)
 
-read_some : (s : Spec) (limits : Limits) (content : Bytes) (k : ℕ) (bytes : Bytes) → ReadOutput s limits content k bytes → bytes ≢ []
+read_some : (s : Spec) (limits : Limits) (content : Bytes) (k : ℕ) (bytes : Bytes) → ReadOutput traces s limits content k bytes → bytes ≢ []
 read_some s limits content k bytes o = along bytes (trace_text s o.run ++ read_line) o.text (ends_some (trace_text s o.run) (codes "fault read"))
 
 -- with its last line it is the output
-whole_output : (s : Spec) (limits : Limits) (content : Bytes) (k : ℕ) (e : SimEnd) (trace : Bytes) → e ≢ end.ReadFault → e ≢ end.WriteFault → EndsSo s limits content k e trace → Output s limits content e (trace ++ last_line e)
+whole_output : (s : Spec) (limits : Limits) (content : Bytes) (k : ℕ) (e : SimEnd) (trace : Bytes) → e ≢ end.ReadFault → e ≢ end.WriteFault → EndsSo s limits content k e trace → Output traces s limits content e (trace ++ last_line e)
 whole_output s limits content k (end.Ended n) trace no_read no_write h = h
 whole_output s limits content k (end.LineFault n fault) trace no_read no_write h = h
 whole_output s limits content k (end.LineTooLong n) trace no_read no_write h = h
@@ -78,12 +79,12 @@ module _ (s : Spec) (limits : Limits) (m : Meeting) (k : ℕ) (e : SimEnd) (name
     stands : (content : Bytes) (h : m.told ≡ Some content) → Stands m.written (output_of (c.told content h).trace) last last_text
     stands content h = one_more_stands mid last m.written mid_text last_text (c.told content h).trace (last_line e) (c.told content h).stands c.line
 
-    read_output : (content : Bytes) (trace : Bytes) → e ≡ end.ReadFault → EndsSo s limits content k e trace → ReadOutput s limits content k (output_of trace)
+    read_output : (content : Bytes) (trace : Bytes) → e ≡ end.ReadFault → EndsSo s limits content k e trace → ReadOutput traces s limits content k (output_of trace)
     read_output content trace is h =
         let there : EndsSo s limits content k end.ReadFault trace = subst (λ (z : SimEnd). EndsSo s limits content k z trace) is h in
-        subst (λ (z : SimEnd). ReadOutput s limits content k (trace ++ last_line z)) (sym is) there
+        subst (λ (z : SimEnd). ReadOutput traces s limits content k (trace ++ last_line z)) (sym is) there
 
-    stops_reading : (content : Bytes) (trace : Bytes) → e ≡ end.ReadFault → EndsSo s limits content k e trace → StopsReading s limits m content (output_of trace)
+    stops_reading : (content : Bytes) (trace : Bytes) → e ≡ end.ReadFault → EndsSo s limits content k e trace → StopsReading traces s limits m content (output_of trace)
     stops_reading content trace is h = record { read = k; output = read_output content trace is h; reach = c.reach }
 
     -- all was written
@@ -122,8 +123,8 @@ module _ (s : Spec) (limits : Limits) (m : Meeting) (k : ℕ) (e : SimEnd) (name
 
       abbrev Left : Bytes → Type 0
       Left content =
-          ((wanted : SimEnd) × (bytes : Bytes) × Output s limits content wanted bytes × AppendsProperPrefix m.written m.written_after bytes)
-          ⊎ (ReadRefused m × ((bytes : Bytes) × StopsReading s limits m content bytes × AppendsProperPrefix m.written m.written_after bytes))
+          ((wanted : SimEnd) × (bytes : Bytes) × Output traces s limits content wanted bytes × AppendsProperPrefix m.written m.written_after bytes)
+          ⊎ (ReadRefused m × ((bytes : Bytes) × StopsReading traces s limits m content bytes × AppendsProperPrefix m.written m.written_after bytes))
 
       left_write : (content : Bytes) (h : m.told ≡ Some content) → e ≡ end.WriteFault → Left content
       left_write content h is =

@@ -8,6 +8,7 @@ pub mod PassingLemmas
 pub mod FittingLemmas
 pub mod AnsweringLemmas
 pub mod RoundLemmas
+pub mod RunningLemmas
 pub mod FollowedLemmas
 pub mod LoopLemmas
 pub mod EndLemmas

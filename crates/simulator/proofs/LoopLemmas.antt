@@ -16,22 +16,23 @@ use Rattle.simulator.specs.declared.upcoming.Upcoming.TheVariants as upcoming
 use Rattle.simulator.specs.Simulation.{Simulation, IsNew}
 use Rattle.simulator.specs.Fitting.{FitsFile, Comes, NoneComes, Goes, lines_read}
 use Rattle.simulator.specs.helpers.Reacting.{EventIsWritten}
-use Rattle.simulator.specs.helpers.Progress.{Followed, Stops, end_by}
+use Rattle.simulator.specs.Ends.{end_by}
+use Rattle.simulator.specs.helpers.Progress.{Followed, Stops}
 use Rattle.simulator.proofs.FollowedLemmas.{starts, flushed, followed_on, stops_there, stops_refused}
 
-each_told : {A : Type 0} {P Q : A → Type 0} (o : Option A) → ((x : A) → P x → Q x) → IfSome o P → IfSome o Q
+pub each_told : {A : Type 0} {P Q : A → Type 0} (o : Option A) → ((x : A) → P x → Q x) → IfSome o P → IfSome o Q
 each_told None f h = h
 each_told (Some x) f h = f x h
 
-both_told : {A : Type 0} {P Q R : A → Type 0} (o : Option A) → ((x : A) → P x → Q x → R x) → IfSome o P → IfSome o Q → IfSome o R
+pub both_told : {A : Type 0} {P Q R : A → Type 0} (o : Option A) → ((x : A) → P x → Q x → R x) → IfSome o P → IfSome o Q → IfSome o R
 both_told None f h k = h
 both_told (Some x) f h k = f x h k
 
-three_told : {A : Type 0} {P Q R S : A → Type 0} (o : Option A) → ((x : A) → P x → Q x → R x → S x) → IfSome o P → IfSome o Q → IfSome o R → IfSome o S
+pub three_told : {A : Type 0} {P Q R S : A → Type 0} (o : Option A) → ((x : A) → P x → Q x → R x → S x) → IfSome o P → IfSome o Q → IfSome o R → IfSome o S
 three_told None f h k l = h
 three_told (Some x) f h k l = f x h k l
 
-any_told : {A : Type 0} {P : A → Type 0} (o : Option A) → ((x : A) → P x) → IfSome o P
+pub any_told : {A : Type 0} {P : A → Type 0} (o : Option A) → ((x : A) → P x) → IfSome o P
 any_told None f = tt
 any_told (Some x) f = f x
 
@@ -45,7 +46,7 @@ module _ (told : Option Bytes) (old : Option (List ℕ)) where
   pub fits_followed : (told' : Option Bytes) (m : Simulation) (state : WriterState) (new : Option (List ℕ)) → told' ≡ told → AreFollowed m state new → IfSome told' (λ content. FitsFile content m)
   fits_followed told' m state new same h =
       subst (λ (o : Option Bytes). IfSome o (λ content. FitsFile content m)) (sym same)
-      (each_told {P = λ content. Followed content m old state new} {Q = λ content. FitsFile content m} told (λ content f. f.fits) h)
+      (each_told {P = λ content. Followed content m old state new} {Q = λ content. FitsFile content m} told (λ content f. f.has.fits) h)
 
   pub flushed_told : (m : Simulation) (first second : WriterState) (mid new : Option (List ℕ)) → Flushes first mid second new → AreFollowed m first mid → AreFollowed m second new
   flushed_told m first second mid new k h =
@@ -68,7 +69,7 @@ module _ (told : Option Bytes) (old : Option (List ℕ)) where
           subst (λ (o : Option Bytes). IfSome o (λ content. messages m.spec (lines_read content m') ≡ messages m.spec (lines_read content m) ++ (comes.message ∷ []))) same comes.next in
           three_told {P = λ content. Followed content m old first mid} {Q = λ content. FitsFile content m'}
           {R = λ content. messages m.spec (lines_read content m') ≡ messages m.spec (lines_read content m) ++ (comes.message ∷ [])} {S = λ content. Followed content m'' old second new} told
-          (λ content p q e. followed_on content m m' m'' k first second old mid new p q comes.message e comes.changes rest event) h fits_there next
+          (λ content p q e. followed_on content m m' m'' first second old mid new p q comes.message e comes.changes rest event) h fits_there next
 
       -- it ends
       pub stops_told : (answer : Upcoming) → NoneComes told' answer m m' → IfSome told (λ content. Stops m.spec m.limits content (taken m'.reading) (end_by answer) old first mid)

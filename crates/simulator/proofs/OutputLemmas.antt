@@ -18,7 +18,7 @@ use Rattle.event_lines.specs.declared.line_fault.LineFault.TheVariants.{NotUtf8,
 use Rattle.event_lines.specs.Told.{rule_of}
 use Rattle.simulator.specs.declared.sim_end.SimEnd.{SimEnd}
 use Rattle.simulator.specs.declared.sim_end.SimEnd.TheVariants as end
-use Rattle.simulator.specs.Outputs.{Output, done, faulty, end_of, fault_of, fault_line}
+use Rattle.simulator.specs.Outputs.{Output, done, faulty, end_of, fault_of, fault_line, traces}
 use Rattle.simulator.specs.helpers.Progress.{AreSound}
 use Rattle.simulator.proofs.RunLemmas.{trace_goes_on}
 
@@ -66,7 +66,7 @@ module _ (one_run : LinesHaveOneRun) (well_formed : WellFormedHasNoFault) (first
     longer lines more same qs is = trace_goes_on one_run s scoped certified (lines_ahead at content) more rs qs run (subst (λ (ls : List Line). IsRun s ls qs) same is)
 
     abbrev Begun : Type 0
-    Begun = (wanted : SimEnd) × (more : Bytes) × Output s limits content wanted (trace_text s rs ++ more)
+    Begun = (wanted : SimEnd) × (more : Bytes) × Output traces s limits content wanted (trace_text s rs ++ more)
 
     without : first_fault s limits content ≡ None → Begun
     without none =
@@ -90,7 +90,7 @@ module _ (one_run : LinesHaveOneRun) (well_formed : WellFormedHasNoFault) (first
           faulty f one.run ((first_is s limits content f).0 is) one.is_run refl (sym (append_assoc (trace_text s rs) more.0 (fault_line f)) ∙ ap (λ (t : Bytes). t ++ fault_line f) (sym more.1)),
         )
 
-    pub begins_output : (wanted : SimEnd) × (more : Bytes) × Output s limits content wanted (trace_text s rs ++ more)
+    pub begins_output : (wanted : SimEnd) × (more : Bytes) × Output traces s limits content wanted (trace_text s rs ++ more)
     begins_output = by (first_fault s limits content) refl
       where
         by : (o : Option FileFault) → first_fault s limits content ≡ o → Begun

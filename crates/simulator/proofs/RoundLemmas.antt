@@ -21,16 +21,28 @@ abbrev pub AreRounds : Spec → World → List Instance → List Round → World
 AreRounds s w present [] w' raised = (w' ≡ w) × (raised ≡ present)
 AreRounds s w present (r ∷ rs) w' raised = (w₁ : World) × (es : List Instance) × IsRound s w present r w₁ es × (present ≢ []) × AreRounds s w₁ es rs w' raised
 
-more_rounds : (s : Spec) (w : World) (present : List Instance) (rs : List Round) (w' : World) (es : List Instance) (r : Round) (v : World) (raised : List Instance)
+-- one more
+pub more_rounds : (s : Spec) (w : World) (present : List Instance) (rs : List Round) (w' : World) (es : List Instance) (r : Round) (v : World) (raised : List Instance)
     → AreRounds s w present rs w' es → es ≢ [] → IsRound s w' es r v raised → AreRounds s w present (rs ++ r ∷ []) v raised
 more_rounds s w present [] w' es r v raised a ne i =
     (v, raised, subst (λ z. IsRound s w z r v raised) a.1 (subst (λ z. IsRound s z es r v raised) a.0 i), (λ none. ne (a.1 ∙ none)), (refl, refl))
 more_rounds s w present (q ∷ rs) w' es r v raised a ne i = (a.0, a.1, a.2, a.3, more_rounds s a.0 a.1 rs w' es r v raised a.4 ne i)
 
-are_step : (s : Spec) (w : World) (present : List Instance) (rs : List Round) (w' : World) → AreRounds s w present rs w' [] → present ≢ [] → IsStep s w present rs w'
+-- they are a step where no event is left
+pub are_step : (s : Spec) (w : World) (present : List Instance) (rs : List Round) (w' : World) → AreRounds s w present rs w' [] → present ≢ [] → IsStep s w present rs w'
 are_step s w present [] w' a ne = absurd (ne (sym a.1))
 are_step s w present (r ∷ []) w' a ne = subst (λ z. IsRound s w present r w' z) (sym a.4.1) (subst (λ z. IsRound s w present r z a.1) (sym a.4.0) a.2)
 are_step s w present (r ∷ q ∷ rs) w' a ne = (a.0, a.1, a.2, a.4.3, are_step s a.0 a.1 (q ∷ rs) w' a.4 a.4.3)
+
+-- after as many rounds as there are events no event is left, as each ends a longer chain
+pub none_left : (s : Spec) (first : List Instance) (k : ℕ) (present : List Instance) → WellScoped s → Certified s → IsExternal s first → length (events s) ≤ k
+    → ((x : Instance) → Each (Ends s x 1) first → Each (Ends s x (suc k)) present) → present ≡ []
+none_left s first k present scoped cert external l longer =
+    let x = external.0 in
+    let begins : Each (Ends s x 1) first =
+    let P : List Instance → Type 0 = λ es. Each (Ends s x 1) es in
+    subst P (sym external.2) (ends_one s x external.1, tt) in
+    none_ends s scoped cert x (suc k) present (omega (arith, l)) (longer x begins)
 
 -- Numbers.
 
@@ -86,12 +98,7 @@ module _ (s : Spec) (w : World) (first : List Instance) where
 
     -- so it is after as many rounds as there are events
     pub none_after : WellScoped s → Certified s → IsExternal s first → length (events s) ≤ k → present ≡ []
-    none_after scoped cert external l =
-        let x = external.0 in
-        let begins : Each (Ends s x 1) first =
-        let P : List Instance → Type 0 = λ es. Each (Ends s x 1) es in
-        subst P (sym external.2) (ends_one s x external.1, tt) in
-        none_ends s scoped cert x (suc k) present (omega (arith, l)) (t.longer x begins)
+    none_after scoped cert external l = none_left s first k present scoped cert external l t.longer
 
 not_empty : (e : Instance) (es : List Instance) → e ∷ es ≡ [] → ⊥
 not_empty e es h = cc

@@ -1,4 +1,4 @@
--- What the simulation of a certified specification ends with and writes, for what its event file holds.
+-- What a command that follows an event file by a certified specification ends with and writes, for what the file holds.
 use Rattle.std.specs.Prelude.{◌≡◌, ℕ, ◌≤◌, List, ◌++◌, length, None, codes, decimal}
 use Rattle.rsml_syntax.specs.declared.syntax.Spec.{Spec}
 use Rattle.rsml_meaning.specs.Words.{Each}
@@ -42,25 +42,34 @@ fault_line long_file = text_line (codes "fault long")
 abbrev pub read_line : Bytes
 read_line = text_line (codes "fault read")
 
--- the end of a simulation that a fault of its event file ends
+-- the end that a fault of the event file makes
 abbrev pub end_of : FileFault → SimEnd
 end_of (long_line n) = end.LineTooLong n
 end_of (broken_line n rule) = end.LineFault n (fault_of rule)
 end_of long_file = end.TooLong
 
--- What a simulation ends with, and what it writes. Of a well-formed event file it is the trace of a run; of another the trace of a
--- run of the lines before the first fault, and the line of this fault.
-pub data Output (s : Spec) (limits : Limits) (content : Bytes) (ended : SimEnd) (bytes : Bytes) : Type 0 where
-  done : (rs : List Reaction) → IsWellFormed s limits content → IsRun s (lines_of content) rs → ended ≡ end.Ended (length rs)
-      → bytes ≡ whole_trace s rs → Output s limits content ended bytes
-  faulty : (f : FileFault) (rs : List Reaction) → IsFirstFault s limits content f → IsRun s (sound_lines s limits content) rs → ended ≡ end_of f
-      → bytes ≡ trace_text s rs ++ fault_line f → Output s limits content ended bytes
+-- What a command writes of runs: of one of a well-formed event file, and of one of the lines before a fault.
+pub record RunTexts : Type 0 where
+  pub whole : Spec → List Reaction → Bytes
+  pub before : Spec → List Reaction → Bytes
 
--- What is written where a read is refused when so many bytes of the event file have been read: the trace of a run of the lines whose LF
+-- those of a simulation: the trace, with its last line and without
+abbrev pub traces : RunTexts
+traces = record { whole = whole_trace; before = trace_text }
+
+-- What it ends with, and what it writes. Of a well-formed event file it is the text of a run; of another that of a run of the lines before
+-- the first fault, and the line of this fault.
+pub data Output (texts : RunTexts) (s : Spec) (limits : Limits) (content : Bytes) (ended : SimEnd) (bytes : Bytes) : Type 0 where
+  done : (rs : List Reaction) → IsWellFormed s limits content → IsRun s (lines_of content) rs → ended ≡ end.Ended (length rs)
+      → bytes ≡ texts.whole s rs → Output texts s limits content ended bytes
+  faulty : (f : FileFault) (rs : List Reaction) → IsFirstFault s limits content f → IsRun s (sound_lines s limits content) rs → ended ≡ end_of f
+      → bytes ≡ texts.before s rs ++ fault_line f → Output texts s limits content ended bytes
+
+-- What is written where a read is refused when so many bytes of the event file have been read: the text of a run of the lines whose LF
 -- stands before that, none of which has a fault, and a line that tells of the read.
-pub record ReadOutput (s : Spec) (limits : Limits) (content : Bytes) (k : ℕ) (bytes : Bytes) : Type 0 where
+pub record ReadOutput (texts : RunTexts) (s : Spec) (limits : Limits) (content : Bytes) (k : ℕ) (bytes : Bytes) : Type 0 where
   pub within : k ≤ length content
   pub sound : Each (λ l. fault_at s limits (length content) l ≡ None) (lines_before k content)
   pub run : List Reaction
   pub is_run : IsRun s (lines_before k content) run
-  pub text : bytes ≡ trace_text s run ++ read_line
+  pub text : bytes ≡ texts.before s run ++ read_line

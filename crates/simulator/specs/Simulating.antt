@@ -1,15 +1,15 @@
--- What a simulation promises, whatever the file and the sink do.
+-- What a command promises that follows an event file, as a simulation does, whatever the file and the sink do.
 use Rattle.std.specs.Prelude.{◌≡◌, ◌≢◌, ℕ, ◌⊎◌, Option, Some}
 use Rattle.rsml_io.specs.Counts.{Rose}
 use Rattle.rsml_io.specs.Writing.{appended, AppendsProperPrefix}
 use Rattle.rsml_syntax.specs.declared.syntax.Spec.{Spec}
 use Rattle.rsml_meaning.specs.EventLines.{Bytes}
 use Rattle.rsml_meaning.specs.EventFiles.{Limits}
-use Rattle.simulator.specs.Outputs.{Output, ReadOutput}
+use Rattle.simulator.specs.Outputs.{Output, ReadOutput, RunTexts, traces}
 use Rattle.simulator.specs.declared.sim_end.SimEnd.{SimEnd}
 use Rattle.simulator.specs.declared.sim_end.SimEnd.TheVariants as end
 
--- What a simulation met: what its event file told of its bytes, how far it was read and how often a read of it was refused, what the sink
+-- What it met: what its event file told of its bytes, how far it was read and how often a read of it was refused, what the sink
 -- told of its written bytes, and how often a write was refused, each before and after.
 pub record Meeting : Type 0 where
   pub told : Option Bytes
@@ -38,29 +38,34 @@ WritesPrefix m bytes = AppendsProperPrefix m.written m.written_after bytes
 
 -- where a read of a file that tells its bytes was refused: how many had been read, which is its reach where that is told, and what was
 -- to be written
-pub record StopsReading (s : Spec) (limits : Limits) (m : Meeting) (content : Bytes) (bytes : Bytes) : Type 0 where
+pub record StopsReading (texts : RunTexts) (s : Spec) (limits : Limits) (m : Meeting) (content : Bytes) (bytes : Bytes) : Type 0 where
   pub read : ℕ
-  pub output : ReadOutput s limits content read bytes
+  pub output : ReadOutput texts s limits content read bytes
   pub reach : m.reach ≡ Some 0 → m.reach_after ≡ Some read
 
 -- how it ends where neither a read nor a write was refused
-abbrev pub IsOutput : Spec → Limits → Meeting → SimEnd → Type 0
-IsOutput s limits m ended = ended ≢ end.ReadFault → ended ≢ end.WriteFault → (content : Bytes) → m.told ≡ Some content
-    → (bytes : Bytes) × Output s limits content ended bytes × Writes m bytes
+abbrev pub IsOutput : RunTexts → Spec → Limits → Meeting → SimEnd → Type 0
+IsOutput texts s limits m ended = ended ≢ end.ReadFault → ended ≢ end.WriteFault → (content : Bytes) → m.told ≡ Some content
+    → (bytes : Bytes) × Output texts s limits content ended bytes × Writes m bytes
 
--- a read fault comes only where a read was refused; the trace before it stands, and its line
-abbrev pub TellsReadFault : Spec → Limits → Meeting → SimEnd → Type 0
-TellsReadFault s limits m ended = ended ≡ end.ReadFault → ReadRefused m × ((content : Bytes) → m.told ≡ Some content
-    → (bytes : Bytes) × StopsReading s limits m content bytes × Writes m bytes)
+-- a read fault comes only where a read was refused; what is to be written then stands
+abbrev pub TellsReadFault : RunTexts → Spec → Limits → Meeting → SimEnd → Type 0
+TellsReadFault texts s limits m ended = ended ≡ end.ReadFault → ReadRefused m × ((content : Bytes) → m.told ≡ Some content
+    → (bytes : Bytes) × StopsReading texts s limits m content bytes × Writes m bytes)
 
 -- a write fault comes only where a write was refused; a prefix stands of what was to be written
-abbrev pub LeavesPrefix : Spec → Limits → Meeting → SimEnd → Type 0
-LeavesPrefix s limits m ended = ended ≡ end.WriteFault → WriteRefused m × ((content : Bytes) → m.told ≡ Some content
-    → ((wanted : SimEnd) × (bytes : Bytes) × Output s limits content wanted bytes × WritesPrefix m bytes)
-    ⊎ (ReadRefused m × ((bytes : Bytes) × StopsReading s limits m content bytes × WritesPrefix m bytes)))
+abbrev pub LeavesPrefix : RunTexts → Spec → Limits → Meeting → SimEnd → Type 0
+LeavesPrefix texts s limits m ended = ended ≡ end.WriteFault → WriteRefused m × ((content : Bytes) → m.told ≡ Some content
+    → ((wanted : SimEnd) × (bytes : Bytes) × Output texts s limits content wanted bytes × WritesPrefix m bytes)
+    ⊎ (ReadRefused m × ((bytes : Bytes) × StopsReading texts s limits m content bytes × WritesPrefix m bytes)))
 
--- All that a simulation promises. With neither a read nor a write refused it ends as its event file wants, since each fault has its cause.
-pub record Simulates (s : Spec) (limits : Limits) (m : Meeting) (ended : SimEnd) : Type 0 where
-  pub output : IsOutput s limits m ended
-  pub read_fault : TellsReadFault s limits m ended
-  pub prefix : LeavesPrefix s limits m ended
+-- All that is promised of a command that follows an event file and writes such texts. With neither a read nor a write refused it ends
+-- as its event file wants, since each fault has its cause.
+pub record Follows (texts : RunTexts) (s : Spec) (limits : Limits) (m : Meeting) (ended : SimEnd) : Type 0 where
+  pub output : IsOutput texts s limits m ended
+  pub read_fault : TellsReadFault texts s limits m ended
+  pub prefix : LeavesPrefix texts s limits m ended
+
+-- what a simulation promises
+abbrev pub Simulates : Spec → Limits → Meeting → SimEnd → Type 0
+Simulates = Follows traces

@@ -4,7 +4,8 @@ ghost use Rattle.event_file.specs.Reading.{taken};
 ghost use Rattle.text_writer.specs.Buffering.{Flushes};
 ghost use Rattle.text_writer.specs.Parts.{state_of, text_of};
 ghost use Rattle.simulator.specs.Simulation.{IsNew};
-ghost use Rattle.simulator.specs.helpers.Progress.{Counted, Stops, end_by};
+ghost use Rattle.simulator.specs.Ends.{end_by};
+ghost use Rattle.simulator.specs.helpers.Progress.{Counted, Stops};
 ghost use Rattle.simulator.specs.declared.sim_end.SimEnd.TheVariants as end;
 
 use crate::course::Course;
@@ -18,7 +19,7 @@ use rsml_meaning::{
 use text_writer::BufferedSink;
 
 /// How a simulation ends, by a final answer.
-fn end_by(answer: Upcoming) -> SimEnd
+pub fn end_by(answer: Upcoming) -> SimEnd
     ensures { result ≡ end_by answer }
 {
     match answer {

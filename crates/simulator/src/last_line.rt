@@ -4,7 +4,7 @@ ghost use Rattle.rsml_meaning.specs.Texts.{text_line};
 ghost use Rattle.text_writer.specs.Writes.{Writes};
 ghost use Rattle.event_lines.specs.Told.{rule_of};
 ghost use Rattle.simulator.specs.Outputs as outputs;
-ghost use Rattle.simulator.specs.helpers.Progress.{last_line};
+ghost use Rattle.simulator.specs.Ends.{last_line};
 
 use crate::sim_end::SimEnd;
 use event_lines::LineFault;

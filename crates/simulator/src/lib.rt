@@ -11,6 +11,8 @@ mod simulator;
 mod turns;
 mod upcoming;
 
+pub use following::end_by;
+pub use last_line::put_last_line;
 pub use sim_end::SimEnd;
 pub use simulator::Simulator;
 pub use upcoming::Upcoming;

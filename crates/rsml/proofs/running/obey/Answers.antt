@@ -11,8 +11,8 @@ answer-requires g c = action_written c.in-Act.action _ c.come_to.result c.come_t
 pub returns-in-Act-clause-obeyed : goal.returns-in-Act-clause-obeyed
 returns-in-Act-clause-obeyed g c = rw c.in-Act.is (c.come_to.result, c.come_to.ensures.came, c.answer.ensures.answered)
 
-pub returns-in-Simulate-clause-obeyed : goal.returns-in-Simulate-clause-obeyed
-returns-in-Simulate-clause-obeyed g c = rw c.in-Simulate.is c.simulate.ensures.simulated
+pub returns-in-Follow-clause-obeyed : goal.returns-in-Follow-clause-obeyed
+returns-in-Follow-clause-obeyed g c = rw c.in-Follow.is c.follow.ensures.followed
 
 pub returns-in-Demo-clause-obeyed : goal.returns-in-Demo-clause-obeyed
 returns-in-Demo-clause-obeyed g c = rw c.in-Demo.is c.demo.ensures.demonstrated
@@ -31,8 +31,8 @@ returns-in-Act-clause-others g c = λ name n.
     c.come_to.ensures.others name
     (λ e. n (names_specification (asked c.args.command) _ name (ap (λ (k : Given). specification_file (asked k)) c.in-Act.is) e))
 
-pub returns-in-Simulate-clause-others : goal.returns-in-Simulate-clause-others
-returns-in-Simulate-clause-others g c = λ name n.
-    c.simulate.ensures.others name
-    (λ e. n (names_specification (asked c.args.command) _ name (ap (λ (k : Given). specification_file (asked k)) c.in-Simulate.is) e))
-    (λ e. n (names_events (asked c.args.command) _ _ name (ap asked c.in-Simulate.is) e))
+pub returns-in-Follow-clause-others : goal.returns-in-Follow-clause-others
+returns-in-Follow-clause-others g c = λ name n.
+    c.follow.ensures.others name
+    (λ e. n (names_specification (asked c.args.command) _ name (ap (λ (k : Given). specification_file (asked k)) c.in-Follow.is) e))
+    (λ e. n (names_events (asked c.args.command) _ _ _ name (ap asked c.in-Follow.is) e))

@@ -11,7 +11,8 @@ use Rattle.simulator.specs.Fitting.{Comes, Goes, NoneComes}
 use Rattle.simulator.specs.declared.sim_end.SimEnd.{SimEnd}
 use Rattle.simulator.specs.declared.sim_end.SimEnd.TheVariants as end
 use Rattle.simulator.specs.declared.upcoming.Upcoming.{Upcoming}
-use Rattle.simulator.specs.helpers.Progress.{Stops, end_by}
+use Rattle.simulator.specs.Ends.{end_by}
+use Rattle.simulator.specs.helpers.Progress.{Stops}
 use Rattle.simulator.proofs.StandsLemmas.{nothing_counted, counted_flushes, counted_writes}
 use Rattle.simulator.proofs.LoopLemmas.{starts_told, fits_followed, flushed_told, followed_told, stops_told, refused_told, none_comes, ends_by_read, ends_by_no_write}
 use Rattle.simulator.proofs.following.follow_all.Goals as goal

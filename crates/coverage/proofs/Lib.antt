@@ -1,0 +1,10 @@
+mod CountedLemmas
+mod CounterLemmas
+mod CoverLemmas
+mod FillLemmas
+mod LoopLemmas
+mod RoundLemmas
+mod StepLemmas
+mod TakenLemmas
+mod TallyLemmas
+mod TextLemmas

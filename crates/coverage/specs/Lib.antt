@@ -1,0 +1,7 @@
+pub mod Counters
+pub mod Coverage
+pub mod Laws
+pub mod Outputs
+pub mod Rounds
+pub mod Steps
+pub mod Text

@@ -1,0 +1,15 @@
+//! How often a run takes each transition and each case of a send, and makes each column of their tables true.
+#![tactic(auto)]
+
+mod counter;
+mod counts;
+mod covering;
+mod laws;
+mod rounds;
+mod tally;
+mod texts;
+
+pub use counts::Counts;
+pub use covering::cover;
+pub use laws::what_reacts_is_taken;
+pub use tally::Tally;

@@ -1,0 +1,111 @@
+ghost use Rattle.std.specs.Prelude.{◌≡◌, ◌≢◌, ◌≤◌, List, ℕ};
+ghost use Rattle.rsml_ground.specs.Grounded.{IsShort};
+ghost use Rattle.rsml_meaning.specs.Certified.{Certified};
+ghost use Rattle.following.specs.Outputs as output;
+ghost use Rattle.following.specs.Steps as steps;
+
+use crate::event_action::EventAction;
+use crate::starting::{Start, start_in};
+use answering::{Status, answer};
+use coverage::cover;
+use elaborate::elaborate;
+use event_file::Limits;
+use rsml_io::{Files, Sink};
+use rsml_syntax::{Checked, NoMemory};
+use simulator::{SimEnd, Simulator};
+use std::alloc::Global;
+
+/// How the command ends, by how following its event file ended.
+fn status_of(end: SimEnd) -> Status
+    ensures { result ≡ output.status_of end }
+{
+    match end {
+        SimEnd::Ended { .. } => Status::Done,
+        SimEnd::LineFault { .. } => Status::EventFault,
+        SimEnd::LineTooLong { .. } => Status::EventFault,
+        SimEnd::ReadFault => Status::ReadFault,
+        SimEnd::TooLong => Status::TooLong,
+        SimEnd::WriteFault => Status::WriteFault,
+    }
+}
+
+/// Follows an event file by a certified specification.
+fn follow_certified<F: Files, K: Sink>(
+    alloc: Global,
+    action: EventAction,
+    checked: &Checked,
+    events: &str,
+    files: &mut F,
+    sink: &mut K,
+) -> Status
+    requires certified { Certified checked.now }
+    requires short { IsShort checked.now }
+    ensures run { steps.HasRun action checked.now (record {
+      told = F.contents files.old events.now;
+      reach = F.reach files.old events.now;
+      reach_after = F.reach files.new events.now;
+      refusals = F.faults files.old events.now;
+      refusals_after = F.faults files.new events.now;
+    }) (record {
+      written = K.written sink.old;
+      written_after = K.written sink.new;
+      refusals = K.faults sink.old;
+      refusals_after = K.faults sink.new;
+    }) result }
+    ensures contents { (name : List ℕ) → F.contents files.new name ≡ F.contents files.old name }
+    ensures count { (name : List ℕ) → F.faults files.old name ≤ F.faults files.new name }
+    ensures others { (name : List ℕ) → name ≢ events.now → F.reach files.new name ≡ F.reach files.old name }
+    ensures sink_count { K.faults sink.old ≤ K.faults sink.new }
+{
+    let machine = match elaborate(alloc, checked) {
+        Ok(machine) => machine,
+        Err(NoMemory) => return Status::NoMemory,
+    };
+    let limits = Limits {
+        line: 4096,
+        file: 4_294_967_296,
+    };
+    match action {
+        EventAction::Simulate => match Simulator::new(alloc, checked, &machine, limits) {
+            Ok(simulator) => status_of(simulator.run(files, events, sink)),
+            Err(NoMemory) => Status::NoMemory,
+        },
+        EventAction::Cover => match cover(alloc, checked, &machine, limits, files, events, sink) {
+            Ok(end) => status_of(end),
+            Err(NoMemory) => Status::NoMemory,
+        },
+    }
+}
+
+/// Reads a specification's file, and follows an event file by it. This is not read where the specification is not certified: then what
+/// `check` comes to is written.
+pub fn follow<F: Files, K: Sink>(
+    alloc: Global,
+    action: EventAction,
+    file: &str,
+    events: &str,
+    files: &mut F,
+    sink: &mut K,
+) -> Status
+    ensures followed { steps.HasFollowed action file.now events.now (λ name. record {
+      told = F.contents files.old name;
+      reach = F.reach files.old name;
+      reach_after = F.reach files.new name;
+      refusals = F.faults files.old name;
+      refusals_after = F.faults files.new name;
+    }) (record {
+      written = K.written sink.old;
+      written_after = K.written sink.new;
+      refusals = K.faults sink.old;
+      refusals_after = K.faults sink.new;
+    }) result }
+    ensures contents { (name : List ℕ) → F.contents files.new name ≡ F.contents files.old name }
+    ensures count { (name : List ℕ) → F.faults files.old name ≤ F.faults files.new name }
+    ensures others { (name : List ℕ) → name ≢ file.now → name ≢ events.now → F.reach files.new name ≡ F.reach files.old name }
+    ensures sink_count { K.faults sink.old ≤ K.faults sink.new }
+{
+    match start_in(alloc, file, files) {
+        Start::Certified(checked) => follow_certified(alloc, action, &checked, events, files, sink),
+        Start::Stopped(came) => answer(sink, came),
+    }
+}

@@ -1,0 +1,9 @@
+//! The commands that follow an event file by a certified specification: `simulate` and `cover`.
+#![tactic(auto)]
+
+mod event_action;
+mod following;
+mod starting;
+
+pub use event_action::EventAction;
+pub use following::follow;

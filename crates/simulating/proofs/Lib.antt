@@ -1,2 +1,0 @@
-pub mod SimulationLemmas
-pub mod StartLemmas
