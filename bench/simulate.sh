@@ -17,6 +17,7 @@ turns=${2:-9}
 work=$(mktemp -d)
 trap 'rm -rf "$work"' EXIT
 source bench/texts.sh
+source bench/event_texts.sh
 
 rustc -O -o "$work/general" bench/simulator.rs
 rustc -O -o "$work/special" bench/simulate.rs
@@ -24,19 +25,6 @@ if [ -z "${PROGRAM:-}" ]; then
   (cd crates/rsml_main && rt run -- check data/lamp.rsml > /dev/null)
   PROGRAM=crates/rsml_main/out/rsml_main
 fi
-
-# file TASK COUNT: an event file with so many events.
-file() {
-  case $1 in
-    lamp) awk -v n="$2" 'BEGIN { srand(1); for (i = 0; i < n; i++) print "Set Lever=" (rand() < 0.5 ? "Up" : "Down") }' ;;
-    tcas) awk -v n="$2" 'BEGIN { srand(2); for (i = 0; i < n; i++) if (rand() < 0.1)
-        print "Pilot Selector=" (rand() < 0.8 ? "Active" : "Standby") " Own_Alt=" int(rand() * 61001) - 1000
-      else print "Radar[" 1 + int(rand() * 30) "] Tau=" int(rand() * 256) }' ;;
-    many_units) awk -v n="$2" 'BEGIN { srand(4); for (i = 0; i < n; i++) { k = 1 + int(rand() * 16)
-        print "Load" k "[" 1 + int(rand() * 62) "] Depth" k "=" int(rand() * 10) } }' ;;
-    demo) awk -v n="$2" 'BEGIN { srand(3); for (i = 0; i < n; i++) print "Load[" 1 + int(rand() * 64) "] Depth=" int(rand() * 1000) }' ;;
-  esac
-}
 
 # ours TASK, general TASK, special TASK: the trace of the event file of a task.
 ours() { "$PROGRAM" simulate "$work/$1.rsml" "$work/$1.events"; }
@@ -56,7 +44,7 @@ demo 64 > "$work/demo.rsml"
 cmp <("$work/general" cabin examples/guide/cabin.events) examples/guide/cabin.trace || { echo "cabin: another trace"; exit 1; }
 printf '%-6s %10s %10s %10s %7s %10s %7s %10s %6s\n' task events ours general ratio 'for one' ratio rounds/s aim
 for task in lamp tcas demo; do
-  file $task "$events" > "$work/$task.events"
+  event_file $task "$events" > "$work/$task.events"
   for peer in general special; do
     cmp <(ours $task) <($peer $task) || { echo "$task: another trace"; exit 1; }
   done
@@ -77,13 +65,13 @@ reacting() {
 }
 many_units > "$work/many_units.rsml"
 for task in lamp many_units; do
-  file $task "$events" > "$work/$task.events"
+  event_file $task "$events" > "$work/$task.events"
   reacting $task > "$work/$task.reacting"
 done
 awk -v units="$(cat "$work/many_units.reacting")" -v lamp="$(cat "$work/lamp.reacting")" \
   'BEGIN { printf "reactions: many_units %d ms, lamp %d ms, ratio %.2f, aim 3\n", units, lamp, units / (lamp + 0.001) }'
 for count in 10000 $((10 * events)); do
-  file lamp "$count" > "$work/lamp.events"
+  event_file lamp "$count" > "$work/lamp.events"
   printf 'lamp, %d events: ' "$count"
   { command time -f 'most memory %M KB' "$PROGRAM" simulate "$work/lamp.rsml" "$work/lamp.events" > /dev/null; } 2>&1
 done

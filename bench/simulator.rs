@@ -1,7 +1,9 @@
 //! A simulator in plain Rust for any specification: an engine over a machine in tables, and the tables of four specifications. Of each of
-//! these it reads an event file line by line and writes its trace, both through buffers. A line that it can't read ends it.
-//! `simulator lamp|tcas|demo|cabin EVENTS [UNITS]`
+//! these it reads an event file line by line and writes its trace, both through buffers; or, at the end, how often each transition was taken
+//! and each column was true. A line that it can't read ends it.
+//! `simulator lamp|tcas|demo|cabin EVENTS [trace|counts [UNITS]]`
 
+use std::collections::HashMap;
 use std::fs::File;
 use std::io::{self, BufWriter, Read, Write};
 use std::os::fd::AsFd;
@@ -176,6 +178,11 @@ struct Machine {
     sendings_by_event: Vec<u32>,
     sendings_on: Vec<Span>,
     sent: Vec<Sent>,
+    /// The columns of the guard of each transition, and of each sending, and the words of that.
+    columns_of_transitions: Vec<Span>,
+    columns_of_sendings: Vec<Span>,
+    counted: Vec<Span>,
+    words_of_sendings: Vec<Span>,
 }
 
 // The engine.
@@ -401,10 +408,53 @@ struct Simulator<'m> {
     acting: Vec<u32>,
     sending: Vec<u32>,
     events: i64,
+    counts: Option<Counts>,
+}
+
+/// How often each transition was taken, each sending was enabled, and each of their columns was true.
+struct Counts {
+    taken: Vec<u64>,
+    sent: Vec<u64>,
+    columns: Vec<u64>,
+}
+
+impl Counts {
+    fn new(machine: &Machine) -> Self {
+        let [taken, sent] = [machine.transitions.len(), machine.sendings.len()].map(|count| vec![0; count]);
+        Counts { taken, sent, columns: vec![0; machine.counted.len()] }
+    }
+
+    fn count_columns(&mut self, world: &mut World, columns: Span) {
+        for place in columns.from as usize..columns.to as usize {
+            self.columns[place] += u64::from(world.every(world.machine.counted[place]));
+        }
+    }
+
+    fn put(&self, out: &mut Out, machine: &Machine, events: i64) -> io::Result<()> {
+        let mut zeros = 0;
+        let mut put = |words: &[u8], action: &str, count: u64, columns: Span| {
+            write!(out, "{action} {count} ")?;
+            out.write_all(words)?;
+            zeros += usize::from(count == 0);
+            for (place, count) in columns.of(&self.columns).iter().enumerate() {
+                writeln!(out, "  column {} {count}", place + 1)?;
+                zeros += usize::from(*count == 0);
+            }
+            Ok::<(), io::Error>(())
+        };
+        for (number, label) in machine.labels.iter().enumerate() {
+            let words = &label.of(&machine.texts)["    take ".len()..];
+            put(words, "taken", self.taken[number], machine.columns_of_transitions[number])?;
+        }
+        for (number, words) in machine.words_of_sendings.iter().enumerate() {
+            put(words.of(&machine.texts), "chosen", self.sent[number], machine.columns_of_sendings[number])?;
+        }
+        writeln!(out, "events {events}\nuncovered {zeros}")
+    }
 }
 
 impl<'m> Simulator<'m> {
-    fn new(machine: &'m Machine) -> Self {
+    fn new(machine: &'m Machine, counts: bool) -> Self {
         let world = World {
             machine,
             children: vec![0; machine.components as usize],
@@ -421,6 +471,7 @@ impl<'m> Simulator<'m> {
             acting: Vec::with_capacity(machine.transitions.len()),
             sending: Vec::with_capacity(machine.sendings.len()),
             events: 0,
+            counts: counts.then(|| Counts::new(machine)),
         }
     }
 
@@ -476,9 +527,14 @@ impl<'m> Simulator<'m> {
         if self.present.items.len() > 1 {
             self.sending.sort_unstable();
         }
-        for sending in &self.sending {
-            let sending = &machine.sendings[*sending as usize];
+        for number in &self.sending {
+            let sending = &machine.sendings[*number as usize];
             if !self.world.holds(sending.guard) {
+                continue;
+            }
+            if let Some(counts) = &mut self.counts {
+                counts.sent[*number as usize] += 1;
+                counts.count_columns(&mut self.world, machine.columns_of_sendings[*number as usize]);
                 continue;
             }
             out.write_all(sending.head.of(&machine.texts))?;
@@ -505,7 +561,13 @@ impl<'m> Simulator<'m> {
         self.take();
         let (texts, labels) = (machine.texts.as_slice(), machine.labels.as_slice());
         for transition in &self.taken {
-            out.write_all(labels[*transition as usize].of(texts))?;
+            match &mut self.counts {
+                None => out.write_all(labels[*transition as usize].of(texts))?,
+                Some(counts) => {
+                    counts.taken[*transition as usize] += 1;
+                    counts.count_columns(&mut self.world, machine.columns_of_transitions[*transition as usize]);
+                }
+            }
         }
         self.send(out)?;
         self.present.clear();
@@ -534,20 +596,25 @@ impl<'m> Simulator<'m> {
         let machine = self.machine;
         let Some(instance) = self.latch(first, words) else { return Ok(false) };
         self.events += 1;
-        out.write_all(b"event ")?;
-        put_number(out, self.events)?;
-        out.write_all(instance.head.of(&machine.texts))?;
+        let traced = self.counts.is_none();
+        if traced {
+            out.write_all(b"event ")?;
+            put_number(out, self.events)?;
+            out.write_all(instance.head.of(&machine.texts))?;
+        }
         self.present.put(instance.event);
         self.round(out)?;
         let mut round = 1;
         while !self.present.items.is_empty() {
             round += 1;
-            out.write_all(b"  round ")?;
-            put_number(out, round)?;
-            for event in &self.present.items {
-                out.write_all(machine.events[*event as usize].of(&machine.texts))?;
+            if traced {
+                out.write_all(b"  round ")?;
+                put_number(out, round)?;
+                for event in &self.present.items {
+                    out.write_all(machine.events[*event as usize].of(&machine.texts))?;
+                }
+                out.write_all(b"\n")?;
             }
-            out.write_all(b"\n")?;
             self.round(out)?;
         }
         Ok(true)
@@ -579,9 +646,10 @@ impl<'m> Simulator<'m> {
             }
             held.copy_within(from..end, 0);
         }
-        out.write_all(b"end ")?;
-        put_number(out, self.events)?;
-        out.write_all(b"\n")?;
+        match &self.counts {
+            Some(counts) => counts.put(out, self.machine, self.events)?,
+            None => writeln!(out, "end {}", self.events)?,
+        }
         Ok(None)
     }
 }
@@ -642,6 +710,8 @@ struct Builder {
     families: Vec<usize>,
     ordinals: Vec<u32>,
     triggers: Vec<Trigger>,
+    /// The columns of the tables that were made last, by their literals.
+    tables: HashMap<u32, Vec<Span>>,
 }
 
 /// Puts items behind those of a vector.
@@ -826,15 +896,29 @@ impl Builder {
                 put(&mut self.machine.literals, literals)
             })
             .collect();
-        let asked = match columns.as_slice() {
-            [] => Phrase::Every(Span::default()),
+        let single = match columns.as_slice() {
             [column] => match column.of(&self.machine.literals) {
-                [literal] => return *literal,
-                _ => Phrase::Every(*column),
+                [literal] => Some(*literal),
+                _ => None,
             },
-            _ => Phrase::Table(put(&mut self.machine.columns, columns)),
+            _ => None,
         };
-        self.phrase(asked).literal(true)
+        let literal = single.unwrap_or_else(|| {
+            let asked = match columns.as_slice() {
+                [] => Phrase::Every(Span::default()),
+                [column] => Phrase::Every(*column),
+                _ => Phrase::Table(put(&mut self.machine.columns, columns.iter().copied())),
+            };
+            self.phrase(asked).literal(true)
+        });
+        self.tables.insert(literal.0, columns);
+        literal
+    }
+
+    /// The columns of the guard that this is, to be counted.
+    fn counted(&mut self, guard: Literal) -> Span {
+        let columns = self.tables.get(&guard.0).cloned().unwrap_or_default();
+        put(&mut self.machine.counted, columns)
     }
 
     fn macro_of(&mut self, rows: &[(Asked, &str)]) -> Asked {
@@ -888,6 +972,10 @@ impl Builder {
     /// The case of a send that is not quiet.
     fn send(&mut self, name: &str, event: u32, guard: Literal, fields: Vec<(&str, Value, Kind)>) {
         let head = self.text(&format!("    send {name}"));
+        let before = self.machine.sendings.iter().filter(|other| other.head.of(&self.machine.texts) == head.of(&self.machine.texts));
+        let words = format!("send {name} case {}\n", before.count() + 1);
+        let words = self.text(&words);
+        self.machine.words_of_sendings.push(words);
         let sent: Vec<Sent> = fields
             .into_iter()
             .map(|(name, value, kind)| Sent {
@@ -918,6 +1006,10 @@ impl Builder {
             let cases = put(&mut self.machine.sendings_by_event, cases.map(|(number, _)| number as u32));
             self.machine.sendings_on.push(cases);
         }
+        let guards: Vec<Literal> = self.triggers.iter().map(|trigger| trigger.guard).collect();
+        self.machine.columns_of_transitions = guards.into_iter().map(|guard| self.counted(guard)).collect();
+        let guards: Vec<Literal> = self.machine.sendings.iter().map(|sending| sending.guard).collect();
+        self.machine.columns_of_sendings = guards.into_iter().map(|guard| self.counted(guard)).collect();
         self.machine.labels.extend(self.triggers.iter().map(|trigger| trigger.label));
         self.machine.transitions.extend(self.triggers.into_iter().map(|trigger| trigger.transition));
         self.machine
@@ -1106,18 +1198,18 @@ fn cabin() -> Machine {
     b.finish()
 }
 
-fn simulate(machine: &Machine, name: &str) -> io::Result<Option<u64>> {
+fn simulate(machine: &Machine, name: &str, counts: bool) -> io::Result<Option<u64>> {
     let mut file = File::open(name)?;
     let sink = File::from(io::stdout().as_fd().try_clone_to_owned()?);
     let mut out = BufWriter::with_capacity(ROOM, sink);
-    let fault = Simulator::new(machine).follow_all(&mut file, &mut out)?;
+    let fault = Simulator::new(machine, counts).follow_all(&mut file, &mut out)?;
     out.flush()?;
     Ok(fault)
 }
 
 fn main() -> ExitCode {
     let words: Vec<String> = std::env::args().skip(1).collect();
-    let units = words.get(2).and_then(|units| units.parse().ok()).unwrap_or(64);
+    let units = words.get(3).and_then(|units| units.parse().ok()).unwrap_or(64);
     let machine = match words.first().map(String::as_str) {
         Some("lamp") => lamp(),
         Some("tcas") => tcas(),
@@ -1125,7 +1217,8 @@ fn main() -> ExitCode {
         Some("cabin") => cabin(),
         _ => return ExitCode::from(4),
     };
-    match simulate(&machine, words.get(1).map_or("", String::as_str)) {
+    let counts = words.get(2).is_some_and(|word| word == "counts");
+    match simulate(&machine, words.get(1).map_or("", String::as_str), counts) {
         Ok(None) => ExitCode::SUCCESS,
         Ok(Some(line)) => {
             eprintln!("line {line} can't be read");

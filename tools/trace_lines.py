@@ -155,44 +155,46 @@ def worlds(it):
     return math.prod([*map(len, it.components.values()), *numbers])
 
 
-def simulation(text, content, read=None):
+def simulation(text, content, read=None, of_events=trace):
     """What `simulate` writes, and its status: where a read is refused, with so many bytes of the event file read before."""
     it = Reading(text)
     if worlds(it) <= MOST_WORLDS and not (refused := report(text)).endswith("certified\n"):
         return refused, 1
-    lines, status = trace(it, content, read)
+    lines, status = of_events(it, content, read)
     return "".join(f"{line}\n" for line in lines), status
 
 
-def of_files(spec, events):
+def of_files(spec, events, of_events):
     """The same of two files: a read is refused of one that is not there."""
     if not spec.exists():
         return "fault read\n", 5
     text = spec.read_text(encoding="utf-8")
-    return simulation(text, events.read_bytes()) if events.exists() else simulation(text, b"", 0)
+    content, read = (events.read_bytes(), None) if events.exists() else (b"", 0)
+    return simulation(text, content, read, of_events)
 
 
 # Comparisons.
 
 
-def simulated():
+def cases_in(folder):
     """Each case of a specification that keeps the rules: its file, itself, the specification, and the event file or nothing."""
-    for file in sorted((TESTS / "simulate").glob("*.cases")):
+    for file in sorted((TESTS / folder).glob("*.cases")):
         for case in cases_of(str(file))[1]:
             if case.status != 2:
                 texts = [text_of(case.files[it], str(file.parent)) if it in case.files else None for it in case.words[1:]]
                 yield file.stem, case, texts[0].decode(), texts[1]
 
 
-def stored_traces():
-    """Each trace of the case files, with its place and what is worked out: reads of an event file that is not there are refused."""
-    for _, case, text, events in simulated():
-        yield case.place, (case.answer.decode(), case.status), simulation(text, events or b"", 0 if events is None else None)
+def stored(command, of_events):
+    """Each answer of the case files, with its place and what is worked out: reads of an event file that is not there are refused."""
+    for _, case, text, events in cases_in(command):
+        read = 0 if events is None else None
+        yield case.place, (case.answer.decode(), case.status), simulation(text, events or b"", read, of_events)
 
 
-def random_traces(count, program):
+def at_random(command, of_events, count, program):
     """What a program writes for random event files, and what is worked out."""
-    texts = sorted({(name, text) for name, _, text, _ in simulated() if name not in NOT_RANDOM})
+    texts = sorted({(name, text) for name, _, text, _ in cases_in("simulate") if name not in NOT_RANDOM})
     with tempfile.TemporaryDirectory() as folder:
         spec, events = Path(folder) / "spec", Path(folder) / "events"
         for seed in range(count):
@@ -200,29 +202,29 @@ def random_traces(count, program):
             content = random_events(Reading(text), seed)
             spec.write_text(text, encoding="utf-8")
             events.write_bytes(content)
-            found = subprocess.run([program, "simulate", str(spec), str(events)], capture_output=True, check=False)
-            yield f"{name} {seed}", simulation(text, content), (found.stdout.decode(), found.returncode)
+            found = subprocess.run([program, command, str(spec), str(events)], capture_output=True, check=False)
+            yield f"{name} {seed}", simulation(text, content, None, of_events), (found.stdout.decode(), found.returncode)
 
 
-def compare(traces):
+def compare(answers, what):
     right = wrong = 0
-    for name, wanted, found in traces:
+    for name, wanted, found in answers:
         right, wrong = right + (found == wanted), wrong + (found != wanted)
         if found != wanted:
             print(name, "WANTED", *wanted, "FOUND", *found, sep="\n")
-    print(f"{right} traces right, {wrong} wrong")
+    print(f"{right} {what} right, {wrong} wrong")
     return int(wrong > 0)
 
 
-def main():
+def main(command, of_events, what):
     if len(sys.argv) == 1:
-        return compare(stored_traces())
+        return compare(stored(command, of_events), what)
     if sys.argv[1] == "--random":
-        return compare(random_traces(int(sys.argv[2]), sys.argv[3]))
-    written, status = of_files(*map(Path, sys.argv[1:]))
+        return compare(at_random(command, of_events, int(sys.argv[2]), sys.argv[3]), what)
+    written, status = of_files(*map(Path, sys.argv[1:]), of_events)
     print(written, end="")
     return status
 
 
 if __name__ == "__main__":
-    sys.exit(main())
+    sys.exit(main("simulate", trace, "traces"))
