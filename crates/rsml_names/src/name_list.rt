@@ -1,15 +1,16 @@
 ghost use Rattle.std.specs.Prelude.{◌≡◌, [], ◌∷◌, ◌++◌, IfOk, OnErr, OnOk, length};
 ghost use Rattle.rsml_syntax.specs.text.Names.{place_of, is_in};
 
-use indexmap::IndexMap;
 use rsml_syntax::NoMemory;
 use std::alloc::Global;
+use std::collections::BTreeMap;
 use std::marker::Model;
 
-/// Names in the order in which they were put in, with the first place of each.
+/// Names in the order in which they were put in, with the first place of each. They are looked up by a tree in
+/// the order of their bytes: no text can make that slow, as names of one hash value would.
 pub struct NameList<'a> {
     all: Vec<&'a [u8]>,
-    first: IndexMap<&'a [u8], usize>,
+    first: BTreeMap<&'a [u8], usize>,
 }
 
 impl Drop for NameList<'_> {
@@ -20,14 +21,16 @@ impl Drop for NameList<'_> {
 
 impl<'a> Model for NameList<'a> {
     ghost use Rattle.std.specs.Prelude.{◌≡◌, List, ℕ, map};
-    ghost use Rattle.indexmap.specs.IndexMap.{get_by};
-    ghost use Rattle.rsml_syntax.specs.text.Names.{same, place_of};
+    ghost use Rattle.std.specs.BTreeMap.{get_by};
+    ghost use Rattle.std.specs.Cmp.Lexicographic.{slice_cmp};
+    ghost use Rattle.std.specs.Ordering.{nat_cmp};
+    ghost use Rattle.rsml_syntax.specs.text.Names.{place_of};
 
     ghost Value = { List (List ℕ) };
 
     ghost view = { λ n. map (λ x. x.now) n.all.items };
 
-    ghost invariant = { λ n. (k : List ℕ) → get_by (λ x. same k x.now) n.first
+    ghost invariant = { λ n. (k : List ℕ) → get_by (λ x. slice_cmp nat_cmp k x.now) n.first
         ≡ place_of k (map (λ x. x.now) n.all.items) };
 }
 
@@ -38,7 +41,7 @@ impl<'a> NameList<'a> {
     {
         NameList {
             all: Vec::new(alloc),
-            first: IndexMap::new(alloc),
+            first: BTreeMap::new(alloc),
         }
     }
 

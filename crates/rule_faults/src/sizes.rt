@@ -253,7 +253,12 @@ fn tell_size(notes: &mut Notes<'_>, declared: &Text, size: Option<i64>) {
 }
 
 /// Tells a name with this size that has no index.
-fn no_index(notes: &mut Notes<'_>, subject: &Subject<'_, '_>, indexed: &Indexed<'_>, size: i64) {
+fn no_index<'a>(
+    notes: &mut Notes<'_>,
+    subject: &Subject<'a, '_>,
+    indexed: &Indexed<'a>,
+    size: i64,
+) {
     notes.fault(
         spot_of(subject.name),
         "{} needs an index, as in `[{}]`",

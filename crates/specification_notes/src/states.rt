@@ -160,8 +160,8 @@ fn tell_deaf(
 
 /// Where states stand, and what the names of events mean.
 #[derive(Clone, Copy)]
-struct Scene<'s, 'a> {
-    globals: &'s Globals<'a>,
+struct Scene<'s, 'g, 'a> {
+    globals: &'s Globals<'g>,
     survey: &'s Survey<'a>,
 }
 
@@ -169,7 +169,7 @@ struct Scene<'s, 'a> {
 fn tell_event(
     notes: &mut Notes<'_>,
     facts: &mut Facts,
-    scene: Scene<'_, '_>,
+    scene: Scene<'_, '_, '_>,
     place: usize,
     trigger: &Mention,
 ) {
@@ -189,7 +189,7 @@ fn tell_event(
 fn tell_component(
     notes: &mut Notes<'_>,
     facts: &mut Facts,
-    scene: Scene<'_, '_>,
+    scene: Scene<'_, '_, '_>,
     place: usize,
     state: &StateAt<'_>,
 ) {
@@ -203,7 +203,7 @@ fn tell_component(
 }
 
 /// Notes on states, by what their transitions say.
-fn tell_each(notes: &mut Notes<'_>, facts: &mut Facts, scene: Scene<'_, '_>) {
+fn tell_each(notes: &mut Notes<'_>, facts: &mut Facts, scene: Scene<'_, '_, '_>) {
     for (place, state) in scene.survey.states.as_slice().iter().enumerate() {
         tell_missed(notes, facts, scene.survey, state);
         tell_component(notes, facts, scene, place, state);

@@ -15,7 +15,7 @@ use std::alloc::Global;
 fn with_declaration<'a>(
     instances: Instances<'a>,
     globals: &Globals<'_>,
-    kind: Kind<'_>,
+    kind: Kind<'_, '_>,
     decl: &'a Decl,
 ) -> Result<Instances<'a>, NoMemory>
     requires { Admits globals.now instances decl.now }
@@ -35,7 +35,7 @@ fn with_declaration<'a>(
 pub fn instances_of<'a>(
     alloc: Global,
     globals: &Globals<'_>,
-    kind: Kind<'_>,
+    kind: Kind<'_, '_>,
     decls: &'a [Decl],
 ) -> Result<Instances<'a>, NoMemory>
     requires { AreArrays globals.now (made kind globals.now) decls.now }

@@ -8,18 +8,18 @@ use rsml_syntax::Decl;
 
 /// What declarations make instances of.
 #[derive(Clone, Copy)]
-pub enum Kind<'n> {
+pub enum Kind<'k, 'n> {
     Event,
     Input,
     /// The inputs whose names are among these.
-    Previous(&'n NameList<'n>),
+    Previous(&'k NameList<'n>),
     /// Macros and functions, in one list.
     Definition,
     Receive,
     Send,
 }
 
-impl Kind<'_> {
+impl Kind<'_, '_> {
     /// Whether a declaration makes instances of this kind.
     pub fn is_made_by(self, decl: &Decl) -> bool
         ensures { (g : Globals) → made self.entry g decl.now
