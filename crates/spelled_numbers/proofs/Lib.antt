@@ -6,3 +6,4 @@ pub mod DigitLemmas
 pub mod KeptLemmas
 pub mod StepLemmas
 pub mod SignLemmas
+pub mod WaitingLemmas

@@ -10,7 +10,7 @@ use Rattle.spelled_numbers.specs.declared.kept.Kept.{Kept}
 use Rattle.spelled_numbers.specs.declared.weighted.Weighted.{Weighted}
 use Rattle.spelled_numbers.specs.Sums.{total_weight}
 use Rattle.spelled_numbers.specs.Table.{Table}
-use Rattle.spelled_numbers.specs.Steps.{counts, counted, taken_off, IsAtMost, AllRight, GainsOnly}
+use Rattle.spelled_numbers.specs.Steps.{counts, counted, taken_off, no_term, weight_at, IsAtMost, AllRight, GainsOnly}
 
 pub represents-keeps : (a b : Diagram) (F : (ℕ → Bool) → Bool) (r : ℕ) → Keeps a b → Represents a F r → Represents b F r
 represents-keeps a b F r k h = record { is_ref = omega (arith, k.longer, h.is_ref); means = λ v. k.meanings_stay r v h.is_ref ∙ h.means v }
@@ -58,12 +58,8 @@ less_room w x room h = elim (leb_tells x (room - w)) [
 pub fits : (d : Diagram) (terms : List Weighted) (weight room r : ℕ) → weight ≤ room → IsAtMost d terms (room - weight) r → Represents d (λ v. leb (weight + counted v terms) room) r
 fits d terms weight room r h is = record { is_ref = is.is_ref; means = λ v. is.means v ∙ less_room weight (counted v terms) room h }
 
--- what stands past the last term
-abbrev pub no_term : Weighted
-no_term = record { minus = false; level = 0; weight = 0 }
-
 -- the terms from one on: it, and those after it
-from_one : (terms : List Weighted) (at : ℕ) → at < length terms → drop at terms ≡ get_or terms at no_term ∷ drop (at + 1) terms
+pub from_one : (terms : List Weighted) (at : ℕ) → at < length terms → drop at terms ≡ get_or terms at no_term ∷ drop (at + 1) terms
 from_one terms at less = drop_more terms at no_term less
 
 -- where something is left, there is a term
@@ -78,18 +74,17 @@ picked true w x room = refl
 picked false w x room = let e : x ≡ 0 + x = omega arith in ap (λ y. leb y room) e
 
 -- a term before the rest
-one_more : (a b c : Diagram) (t : Weighted) (rest : List Weighted) (room out within r : ℕ) → Keeps a b → IsAtMost a rest room out
-    → Represents b (λ v. leb (t.weight + counted v rest) room) within
-    → Represents c (λ v. if counts (v t.level) t then meaning b within v else meaning b out v) r → IsAtMost c (t ∷ rest) room r
-one_more a b c t rest room out within r k o w h = record {
+one_more : (a b : Diagram) (t : Weighted) (rest : List Weighted) (room out within r : ℕ) → IsAtMost a rest room out
+    → Represents a (λ v. leb (t.weight + counted v rest) room) within
+    → Represents b (λ v. if counts (v t.level) t then meaning a within v else meaning a out v) r → IsAtMost b (t ∷ rest) room r
+one_more a b t rest room out within r o w h = record {
   is_ref = h.is_ref;
-  means = λ v. h.means v ∙ same_choice _ _ _ _ _ _ refl (w.means v) (k.meanings_stay out v o.is_ref ∙ o.means v)
-      ∙ picked (counts (v t.level) t) t.weight (counted v rest) room;
+  means = λ v. h.means v ∙ same_choice _ _ _ _ _ _ refl (w.means v) (o.means v) ∙ picked (counts (v t.level) t) t.weight (counted v rest) room;
 }
 
-pub chosen : (a b c : Diagram) (terms : List Weighted) (at room out within r : ℕ) → at < length terms → Keeps a b → IsAtMost a (drop (at + 1) terms) room out
-    → Represents b (λ v. leb ((get_or terms at no_term).weight + counted v (drop (at + 1) terms)) room) within
-    → Represents c (λ v. if counts (v (get_or terms at no_term).level) (get_or terms at no_term) then meaning b within v else meaning b out v) r
-    → IsAtMost c (drop at terms) room r
-chosen a b c terms at room out within r less k o w h =
-    subst (λ ts. IsAtMost c ts room r) (sym (from_one terms at less)) (one_more a b c (get_or terms at no_term) (drop (at + 1) terms) room out within r k o w h)
+pub joined : (a b : Diagram) (terms : List Weighted) (at room out within r : ℕ) → at < length terms → IsAtMost a (drop (at + 1) terms) room out
+    → Represents a (λ v. leb (weight_at terms at + counted v (drop (at + 1) terms)) room) within
+    → Represents b (λ v. if counts (v (get_or terms at no_term).level) (get_or terms at no_term) then meaning a within v else meaning a out v) r
+    → IsAtMost b (drop at terms) room r
+joined a b terms at room out within r less o w h =
+    subst (λ ts. IsAtMost b ts room r) (sym (from_one terms at less)) (one_more a b (get_or terms at no_term) (drop (at + 1) terms) room out within r o w h)

@@ -5,3 +5,4 @@ pub mod Laws
 pub mod Sums
 pub mod Table
 pub mod Steps
+pub mod Waiting

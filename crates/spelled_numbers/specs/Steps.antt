@@ -1,5 +1,5 @@
 -- What the private steps of a comparison promise each other. No public clause speaks of these.
-use Rattle.std.specs.Prelude.{◌≡◌, ℕ, ◌+◌, Bool, not, if◌then◌else◌, List, [], ◌∷◌, nat_le, drop, ◌⊎◌, Contains, Option, Some}
+use Rattle.std.specs.Prelude.{◌≡◌, ℕ, ◌+◌, Bool, not, if◌then◌else◌, List, [], ◌∷◌, nat_le, drop, get_or, false, ◌⊎◌, Contains, Option, Some}
 use Rattle.bdd_core.specs.Diagram.{Diagram}
 use Rattle.bdd_core.specs.Calls.{Represents}
 use Rattle.spelled_numbers.specs.declared.kept.Kept.{Kept}
@@ -19,6 +19,14 @@ counted values (t ∷ ts) = (if counts (values t.level) t then t.weight else 0) 
 abbrev pub taken_off : List Weighted → ℕ
 taken_off [] = 0
 taken_off (t ∷ ts) = (if t.minus then t.weight else 0) + taken_off ts
+
+-- what stands past the last term
+abbrev pub no_term : Weighted
+no_term = record { minus = false; level = 0; weight = 0 }
+
+-- the weight at a place
+abbrev pub weight_at : List Weighted → ℕ → ℕ
+weight_at terms at = (get_or terms at no_term).weight
 
 -- r is true exactly where the levels that count sum to at most room
 abbrev pub IsAtMost : Diagram → List Weighted → ℕ → ℕ → Type 0

@@ -10,6 +10,7 @@ mod kept;
 mod laws;
 mod rooms;
 mod slot;
+mod step;
 mod sum_table;
 mod weighted;
 mod weights;

@@ -93,7 +93,7 @@ impl SumTable {
             nat_le (weight_sum values terms.now) most)) }
     {
         self.begin();
-        self.build(arena, terms, 0, total_of(terms), most)
+        self.build(arena, terms, total_of(terms), most)
     }
 
     /// Where the sum is this number.
@@ -141,7 +141,7 @@ impl SumTable {
     {
         match room_for(off_of(terms), bound) {
             None => Ok(arena.constant(false)),
-            Some(room) => self.build(arena, terms, 0, total_of(terms), room),
+            Some(room) => self.build(arena, terms, total_of(terms), room),
         }
     }
 }

@@ -1,7 +1,7 @@
 use Rattle.std.proofs.Common.{◌<◌, length, ap, arith}
 use Rattle.std.proofs.lemmas.List.{drop_more}
-use Rattle.spelled_numbers.specs.Steps.{taken_off}
-use Rattle.spelled_numbers.proofs.StepLemmas.{no_term, taken_most}
+use Rattle.spelled_numbers.specs.Steps.{no_term, taken_off}
+use Rattle.spelled_numbers.proofs.StepLemmas.{taken_most}
 use Rattle.spelled_numbers.proofs.rooms.off_of.Goals as goal
 
 pub overflow_add-off : goal.overflow_add-off
