@@ -4,7 +4,8 @@ ghost use Rattle.rsml_syntax.specs.declared.world.World.{World};
 ghost use Rattle.rsml_meaning.specs.Instances.{components};
 ghost use Rattle.rsml_meaning.specs.Cells.{cells};
 ghost use Rattle.bdd_core.specs.Diagram.{IsRef, meaning};
-ghost use Rattle.guard_encode.specs.Encoding.{Finds, Keeps, Tells};
+ghost use Rattle.bdd_core.specs.Calls.{Represents};
+ghost use Rattle.guard_encode.specs.Encoding.{Finds, Keeps, Tells, is_at_most, worlds_of};
 
 use crate::encoder::Encoder;
 use bdd_core::Ref;
@@ -39,6 +40,7 @@ impl<'m, 'a> Encoder<'m, 'a> {
             → Tells self.new (λ w. one w && other w) r) }
         ensures found { IfOk result (λ r. (one other : World → Bool) → Finds self.old one f → Tells self.old other g
             → Finds self.new (λ w. one w && other w) r) }
+        ensures values { IfOk result (Represents self.new.diagram (λ v. meaning self.old.diagram f v && meaning self.old.diagram g v)) }
     {
         self.arena.and(f, g)
     }
@@ -96,6 +98,7 @@ impl<'m, 'a> Encoder<'m, 'a> {
         requires { cell < length (cells self.old.machine.base.spec) }
         ensures keeps { Keeps self.old self.new }
         ensures answer { IfOk result (Tells self.new (λ w. int_le (slice_index_or w.cells cell (pos 0)) number)) }
+        ensures values { IfOk result (Represents self.new.diagram (is_at_most (worlds_of self.old) cell number)) }
     {
         phrase_diagrams::at_most(
             &mut self.arena,

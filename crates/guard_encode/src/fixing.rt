@@ -32,7 +32,7 @@ impl<'m, 'a> Encoder<'m, 'a> {
     {
         world_laws();
         let spelled = self.number(cell, number)?;
-        self.both(f, spelled)
+        self.and(f, spelled)
     }
 
     /// Where the levels of a cell have the values by which a number is spelled. False everywhere, where the cell can't have it.

@@ -3,11 +3,10 @@ ghost use Rattle.std.specs.Prelude.{◌≡◌, ◌<◌, ◌↔◌, ◌&&◌, Boo
 ghost use Rattle.rsml_syntax.specs.declared.world.World.{World};
 ghost use Rattle.rsml_meaning.specs.Cells.{cells};
 ghost use Rattle.rsml_meaning.specs.Worlds.{IsWorld};
-ghost use Rattle.bdd_core.specs.Diagram.{IsRef, meaning};
-ghost use Rattle.bdd_core.specs.Calls.{Represents};
+ghost use Rattle.bdd_core.specs.Diagram.{IsRef};
 ghost use Rattle.keyed_levels.specs.Keyed.{AreKeyed};
 ghost use Rattle.settled_worlds.specs.Settled.{cell_levels, IsProjected, IsSameLawfully};
-ghost use Rattle.guard_encode.specs.Encoding.{Finds, IsOfCell, Keeps, is_at_most, worlds_of};
+ghost use Rattle.guard_encode.specs.Encoding.{Finds, IsOfCell, Keeps, worlds_of};
 
 use crate::encoder::Encoder;
 use bdd_core::Ref;
@@ -39,8 +38,8 @@ impl<'m, 'a> Encoder<'m, 'a> {
         ensures answer { IfOk result (λ may. (truth : World → Bool) → IsOfCell self.old cell truth r → (may ≡ false)
             ↔ ((w : World) → IsWorld self.old.machine.base.spec w → (truth w && int_le (slice_index_or w.cells cell (pos 0)) number) ≡ false)) }
     {
-        let below = self.below(cell, number)?;
-        let both = self.both(r, below)?;
+        let below = self.at_most(cell, number)?;
+        let both = self.and(r, below)?;
         Ok(!self.is_false(both))
     }
 
@@ -89,30 +88,5 @@ impl<'m, 'a> Encoder<'m, 'a> {
             cell,
             f,
         )
-    }
-
-    /// Where the values of the levels, lawful or not, give a cell at most this number.
-    fn below(&mut self, cell: u32, number: i64) -> Result<Ref, NoMemory>
-        requires { cell < length (cells self.old.machine.base.spec) }
-        ensures keeps { Keeps self.old self.new }
-        ensures answer { IfOk result (Represents self.new.diagram (is_at_most (worlds_of self.old) cell number)) }
-    {
-        phrase_diagrams::at_most(
-            &mut self.arena,
-            &mut self.sums,
-            self.levels.layout(),
-            cell,
-            number,
-        )
-    }
-
-    /// Where two functions are true, at all values of the levels.
-    pub(crate) fn both(&mut self, f: Ref, g: Ref) -> Result<Ref, NoMemory>
-        requires f_ref { IsRef self.old.diagram f }
-        requires g_ref { IsRef self.old.diagram g }
-        ensures keeps { Keeps self.old self.new }
-        ensures answer { IfOk result (Represents self.new.diagram (λ v. meaning self.old.diagram f v && meaning self.old.diagram g v)) }
-    {
-        self.arena.and(f, g)
     }
 }

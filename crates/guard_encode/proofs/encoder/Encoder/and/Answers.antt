@@ -1,4 +1,4 @@
-use Rattle.std.proofs.Common.{◌&&◌, sym, subst}
+use Rattle.std.proofs.Common.{◌&&◌, sym, subst, IfOk}
 use Rattle.std.proofs.lemmas.Result.{IfOk-weaker}
 use Rattle.bdd_core.specs.Diagram.{meaning}
 use Rattle.bdd_core.specs.Calls.{Represents}
@@ -31,3 +31,7 @@ returns-clause-found c =
     (λ r h one other a b. and_finds c.self.inside.machine.now c.self.inside.levels old c.and.new.self c.args.f c.args.g r one other h
     (subst (λ (e : Encoding). Finds e one c.args.f) (sym c.self.view_is) a) (subst (λ (e : Encoding). Tells e other c.args.g) (sym c.self.view_is) b))
     c.and.ensures.answer
+
+pub returns-clause-values : goal.returns-clause-values
+returns-clause-values c =
+    subst (λ (e : Encoding). IfOk c.and.result (Represents c.and.new.self (λ v. meaning e.diagram c.args.f v && meaning e.diagram c.args.g v))) c.self.view_is c.and.ensures.answer

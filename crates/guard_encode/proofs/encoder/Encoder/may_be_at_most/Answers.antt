@@ -16,10 +16,10 @@ returns-clause-answer c = λ truth of.
     let e = c.args.self.now in
     let r = c.args.r in
     let fits : FitsSigned w64 c.args.number = search rules in
-    let below : (v : ℕ → Bool) → meaning c.below.new.self.diagram c.in_ok-below.below v ≡ is_at_most (worlds_of e) c.args.cell c.args.number v =
-    subst (λ n. (v : ℕ → Bool) → meaning c.below.new.self.diagram c.in_ok-below.below v ≡ is_at_most (worlds_of e) c.args.cell n v) (to_z-of_z w64 c.args.number fits) c.in_ok-below.ensures.answer.means in
-    let same : (v : ℕ → Bool) → meaning c.both.new.self.diagram c.in_ok-both.both v ≡ (meaning e.diagram r v && is_at_most (worlds_of e) c.args.cell c.args.number v) =
-    λ v. c.in_ok-both.ensures.answer.means v ∙ (λ i. c.below.ensures.keeps.diagram.meanings_stay r v c.requires.r_ref i && below v i) in
+    let below : (v : ℕ → Bool) → meaning c.at_most.new.self.diagram c.in_ok-below.below v ≡ is_at_most (worlds_of e) c.args.cell c.args.number v =
+    subst (λ n. (v : ℕ → Bool) → meaning c.at_most.new.self.diagram c.in_ok-below.below v ≡ is_at_most (worlds_of e) c.args.cell n v) (to_z-of_z w64 c.args.number fits) c.in_ok-below.ensures.values.means in
+    let same : (v : ℕ → Bool) → meaning c.and.new.self.diagram c.in_ok-both.both v ≡ (meaning e.diagram r v && is_at_most (worlds_of e) c.args.cell c.args.number v) =
+    λ v. c.in_ok-both.ensures.values.means v ∙ (λ i. c.at_most.ensures.keeps.diagram.meanings_stay r v c.requires.r_ref i && below v i) in
     let question = of.same c.args.number in (
       λ no_world. question.0 (λ v. sym (same v) ∙ c.is_false.ensures.0 (was_true c.is_false.result no_world) v),
       λ never. not_false c.is_false.result (c.is_false.ensures.1 (λ v. same v ∙ question.1 never v)),
