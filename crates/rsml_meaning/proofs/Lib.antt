@@ -7,8 +7,8 @@ mod FirstFault
 mod FunctionValues
 mod Lengths
 mod LineRules
-mod Order
-mod OneReport
+pub mod Order
+pub mod OneReport
 mod Pigeons
 pub mod Prefixes
 mod Reached
@@ -19,7 +19,7 @@ pub mod Stable
 mod VerdictLines
 pub mod Ways
 mod WellFormed
-mod Written
+pub mod Written
 mod examples
 pub mod values
 pub mod Globals
@@ -28,17 +28,17 @@ pub mod rules
 mod Apart
 mod Deterministic
 mod RunExamples
-mod Latched
-mod Lines
-mod Longer
+pub mod Latched
+pub mod Lines
+pub mod Longer
 mod Lowest
-mod Messages
-mod MicroSteps
+pub mod Messages
+pub mod MicroSteps
 mod Runs
 mod Sends
-mod Sources
-mod Steps
-mod Turns
+pub mod Sources
+pub mod Steps
+pub mod Turns
 mod MessageValues
 mod Verdict
-mod WorldSteps
+pub mod WorldSteps

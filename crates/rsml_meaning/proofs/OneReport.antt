@@ -73,7 +73,7 @@ found (x ∷ xs) e i h = by_test (same_instance e x) h (found xs e (i + 1))
     by_test true q rest = refl
     by_test false q rest = rest q
 
-place_apart : (s : Spec) (e f : Instance) → has (events s) e ≡ true → has (events s) f ≡ true → event_place s e ≡ event_place s f → e ≡ f
+pub place_apart : (s : Spec) (e f : Instance) → has (events s) e ≡ true → has (events s) f ≡ true → event_place s e ≡ event_place s f → e ≡ f
 place_apart s e f h k p = one_place (events s) e f 0 (event_place s f) (found (events s) e 0 h ∙ ap Some p) (found (events s) f 0 k)
 
 -- Clashes.

@@ -143,7 +143,7 @@ each_active s w R ms h ts are = each_more (IsActiveTransition s w) (IsTaken (zip
         record { c = (o.c, n.0); among = n.1; x = o.x; at_component = o.at_component; at_source = o.at_source; is_active = a.active }
 
 -- those that are taken have active sources
-enabled_active : (s : Spec) (w : World) (present : List Instance) → Each (IsActiveTransition s w) (enabled_transitions s (view s w) present)
+pub enabled_active : (s : Spec) (w : World) (present : List Instance) → Each (IsActiveTransition s w) (enabled_transitions s (view s w) present)
 enabled_active s w present =
     each_more (λ t. IsOne t (transitions s) × ((has present t.event && is_enabled (view s w) t) ≡ true)) (IsActiveTransition s w)
     (λ t p. record { among = p.0; active = active_of_view s w t.source (source_active s w t (second_so (has present t.event) (is_enabled (view s w) t) p.1)) })

@@ -1,0 +1,6 @@
+pub mod Breaks
+pub mod Claims
+pub mod Inductive
+pub mod Laws
+pub mod NextWorlds
+pub mod Throughout
