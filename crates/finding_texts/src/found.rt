@@ -18,8 +18,8 @@ use instance_texts::Texts;
 use rsml_syntax::World;
 use text_writer::{Writer, put_line_end};
 
-// Writes a line of a word and of what a group is.
-fn put_head<W: Writer>(
+/// Writes a line of a word and of what a group is.
+pub fn put_head<W: Writer>(
     writer: &mut W,
     word: &[u8],
     machine: &Machine<'_>,

@@ -12,4 +12,6 @@ mod states;
 mod verdict;
 
 pub use findings::Findings;
+pub use found::put_head;
+pub use states::put_state;
 pub use verdict::Verdict;

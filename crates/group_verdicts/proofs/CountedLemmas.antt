@@ -6,7 +6,7 @@ use Rattle.rsml_meaning.specs.Groups.{meets, enabled_count}
 use Rattle.guard_encode.specs.Encoding.{Encoding, Keeps, Tells}
 use Rattle.guard_encode.proofs.StepLemmas.{keeps_on}
 use Rattle.group_verdicts.specs.Counts.{Question, TellsAt, has_more}
-use Rattle.group_verdicts.specs.Failing.{enables_none, enables_two}
+use Rattle.world_columns.specs.Failing.{enables_none, enables_two}
 use Rattle.group_verdicts.proofs.CountLemmas.{none_is}
 use Rattle.group_verdicts.proofs.AtLemmas.{and_at, not_at, tells_on, told_as}
 

@@ -8,7 +8,7 @@ use Rattle.rsml_meaning.specs.Truth.{view}
 use Rattle.rsml_meaning.specs.Groups.{Group, Sound, enabled_count, meets}
 use Rattle.rsml_meaning.specs.Findings.{EnablesNone, EnablesTwo, IsLeast}
 use Rattle.group_verdicts.specs.Least.{IsLeastWorld}
-use Rattle.group_verdicts.specs.Failing.{enables_none, enables_two}
+use Rattle.world_columns.specs.Failing.{enables_none, enables_two}
 
 -- no world of the specification passes the test
 abbrev pub Nowhere : Spec → (World → Bool) → Type 0

@@ -8,7 +8,7 @@ use Rattle.rsml_meaning.specs.Groups.{Group, groups}
 use Rattle.group_verdicts.specs.Least.{IsLeastWorld}
 use Rattle.elaborate.specs.Machine.{GroundMachine}
 use Rattle.guard_encode.specs.Encoding.{Encoding, Keeps, TellsExactly}
-use Rattle.group_verdicts.specs.Failing.{enables_none, enables_two}
+use Rattle.world_columns.specs.Failing.{enables_none, enables_two}
 use Rattle.group_verdicts.proofs.AtLemmas as at_place
 use Rattle.group_verdicts.proofs.FailLemmas.{Nowhere, least_none, least_two, no_none, sound}
 

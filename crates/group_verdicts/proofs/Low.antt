@@ -58,7 +58,7 @@ read_value (r ∷ read) (l ∷ ls) (y ∷ ys) zero d is = ap (λ b. if b then y 
 read_value (r ∷ read) (l ∷ ls) (y ∷ ys) (suc k) d is = read_value read ls ys k d is
 
 -- one value after another gives way to the least, and a test stays that depends on none of these
-one_by_one : {B : Type 0} (test : List B → Bool) (Fits : List B → Type 0) (read : List Bool) (ls ys : List B)
+pub one_by_one : {B : Type 0} (test : List B → Bool) (Fits : List B → Type 0) (read : List Bool) (ls ys : List B)
     → ((k : ℕ) → slice_get read k ≡ Some false → (one other : List B) → Fits one → Fits other → ((j : ℕ) → j ≢ k → slice_get one j ≡ slice_get other j) → test one ≡ test other)
     → ((some : List Bool) → Fits (lowered some ls ys)) → test (lowered read ls ys) ≡ test ys
 one_by_one test Fits [] ls ys ignored fit = refl

@@ -3,4 +3,3 @@ pub mod Narrowing
 pub mod Finding
 pub mod Kept
 pub mod Counts
-pub mod Failing

@@ -2,7 +2,7 @@ ghost use Rattle.std.specs.Prelude.{◌≡◌, ◌<◌, IfOk, Some, length, slic
 ghost use Rattle.rsml_meaning.specs.Groups.{Group, groups};
 ghost use Rattle.guard_encode.specs.Encoding.{Keeps, TellsExactly};
 ghost use Rattle.group_verdicts.specs.Counts.{AreCounts};
-ghost use Rattle.group_verdicts.specs.Failing.{enables_none, enables_two};
+ghost use Rattle.world_columns.specs.Failing.{enables_none, enables_two};
 
 use crate::counted::{some_of, two_of};
 use crate::counts::Counts;

@@ -13,4 +13,8 @@ mod least;
 mod passing;
 mod reading;
 
+pub use counts::Counts;
+pub use failing::{none_enabled, two_enabled};
 pub use found::{refused_group, verdicts, verdicts_by};
+pub use least::least_world;
+pub use reading::{cell_number, is_read};

@@ -1,5 +1,5 @@
 -- The text of what stands at a place of a list.
-use Rattle.std.proofs.Common.{◌≡◌, ℕ, ◌<◌, ◌≤◌, List, [], map, length, get_or, Option, Some, None, refl, sym, ap, ◌∙◌, slice_get}
+use Rattle.std.proofs.Common.{◌≡◌, ℕ, ◌<◌, ◌≤◌, Bool, false, List, [], map, length, get_or, Option, Some, None, refl, sym, ap, ◌∙◌, slice_get}
 use Rattle.std.specs.Option.{option_map, option_map_or, option_and_then}
 use Rattle.std.proofs.lemmas.Option.{slice_get-map, slice_get-get_or, slice_get_past}
 use Rattle.rsml_meaning.specs.Cells.{InputCell}
@@ -43,6 +43,25 @@ no_cell h (Some c) e = absurd (let no : ⊥ = cc in no)
 pub cell_past : (h : InputCell → List ℕ) (cs xs : List InputCell) (k : ℕ) → xs ≡ map without_first cs → length xs ≤ k → [] ≡ option_map_or h (slice_get cs k) []
 cell_past h cs xs k all b =
     no_cell h (slice_get cs k) (sym (slice_get-map without_first cs k) ∙ ap (λ (ys : List InputCell). slice_get ys k) (sym all) ∙ slice_get_past xs k b)
+
+-- what is true of the cell there
+so_of : (h : InputCell → Bool) → ((c : InputCell) → h (without_first c) ≡ h c) → (x : InputCell) (o : Option InputCell) → option_map without_first o ≡ Some x → h x ≡ option_map_or h o false
+so_of h same x None e = absurd (let no : ⊥ = cc in no)
+so_of h same x (Some c) e = let is : without_first c ≡ x = cc in sym (ap h is) ∙ same c
+
+pub so_there : (h : InputCell → Bool) → ((c : InputCell) → h (without_first c) ≡ h c) → (cs xs : List InputCell) (k : ℕ) (x : InputCell) → xs ≡ map without_first cs → k < length xs → x ≡ get_or xs k x
+    → h x ≡ option_map_or h (slice_get cs k) false
+so_there h same cs xs k x all b e =
+    so_of h same x (slice_get cs k) (sym (slice_get-map without_first cs k) ∙ ap (λ (ys : List InputCell). slice_get ys k) (sym all) ∙ got xs k x b e)
+
+no_such : (h : InputCell → Bool) (o : Option InputCell) → option_map without_first o ≡ None → false ≡ option_map_or h o false
+no_such h None e = refl
+no_such h (Some c) e = absurd (let no : ⊥ = cc in no)
+
+-- nothing is past the last
+pub so_past : (h : InputCell → Bool) (cs xs : List InputCell) (k : ℕ) → xs ≡ map without_first cs → length xs ≤ k → false ≡ option_map_or h (slice_get cs k) false
+so_past h cs xs k all b =
+    no_such h (slice_get cs k) (sym (slice_get-map without_first cs k) ∙ ap (λ (ys : List InputCell). slice_get ys k) (sym all) ∙ slice_get_past xs k b)
 
 -- the name at a place among the inputs of the receive there
 pub name_there : (s : Spec) (xs : List Listed) (k place : ℕ) (x : Listed) → xs ≡ all_listed sorts.Receive s → k < length xs → x ≡ get_or xs k x

@@ -1,4 +1,4 @@
-ghost use Rattle.std.specs.Prelude.{◌≡◌, [], IfOk, map, slice_get};
+ghost use Rattle.std.specs.Prelude.{◌≡◌, [], IfOk, false, length, map, nat_lt, slice_get};
 ghost use Rattle.std.specs.Option.{option_copied, option_map_or, option_and_then};
 ghost use Rattle.rsml_meaning.specs.Instances as instances;
 ghost use Rattle.rsml_meaning.specs.Interfaces as interfaces;
@@ -147,6 +147,17 @@ impl<'a> Texts<'a> {
         match self.cells.get(cell as usize) {
             Some(cell) => put_value(writer, cell.names(), number),
             None => {}
+        }
+    }
+
+    /// Whether the numbers of the cell of a number have names: its type is an enumeration. Not where there is no such cell.
+    pub fn has_names(&self, cell: u32) -> bool
+        ensures { result ≡ option_map_or (λ c. nat_lt 0 (length c.numbers.names)) (slice_get (spec_cells.cells self.now) cell) false }
+    {
+        let _ = &self.spec;
+        match self.cells.get(cell as usize) {
+            Some(cell) => cell.names().len() > 0,
+            None => false,
         }
     }
 

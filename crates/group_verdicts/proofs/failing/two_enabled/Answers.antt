@@ -1,7 +1,7 @@
 use Rattle.std.proofs.lemmas.Result.{IfOk-weaker}
 use Rattle.guard_encode.proofs.StepLemmas.{keeps_on}
 use Rattle.group_verdicts.specs.Counts.{has_more}
-use Rattle.group_verdicts.specs.Failing.{enables_two}
+use Rattle.world_columns.specs.Failing.{enables_two}
 use Rattle.group_verdicts.proofs.AtLemmas.{decided_at, ref_at, ref_on, there_on}
 use Rattle.group_verdicts.proofs.CountsLemmas.{counts_on}
 use Rattle.group_verdicts.proofs.CountedLemmas.{holds, two_fail}

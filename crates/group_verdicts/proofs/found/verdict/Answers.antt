@@ -1,7 +1,7 @@
 use Rattle.std.proofs.lemmas.Option.{MatchOption-at_none, MatchOption-at_some}
 use Rattle.group_verdicts.specs.Least.{IsLeastWorld}
 use Rattle.guard_encode.proofs.StepLemmas.{keeps_on}
-use Rattle.group_verdicts.specs.Failing.{enables_none, enables_two}
+use Rattle.world_columns.specs.Failing.{enables_none, enables_two}
 use Rattle.group_verdicts.proofs.AtLemmas.{there_on}
 use Rattle.group_verdicts.proofs.CountsLemmas.{counts_on}
 use Rattle.group_verdicts.proofs.FailLemmas.{Nowhere}

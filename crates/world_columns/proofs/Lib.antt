@@ -1,0 +1,5 @@
+mod Alike
+pub mod Inside
+mod Lists
+pub mod Passing
+mod Several
