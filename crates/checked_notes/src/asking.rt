@@ -6,8 +6,10 @@ ghost use Rattle.guard_encode.specs.Encoding.{Keeps};
 use crate::columns::column_guard;
 use crate::instances::Asked;
 use bdd_core::Ref;
+use group_verdicts::least_world;
 use guard_encode::Encoder;
 use rsml_base::NoMemory;
+use rsml_syntax::World;
 use std::alloc::Global;
 
 /// Where a column is true.
@@ -96,4 +98,17 @@ pub fn is_within(
 ) -> Result<bool, NoMemory> {
     let left = without(alloc, encoder, asked, one, other)?;
     is_never(alloc, encoder, left, asked.source)
+}
+
+/// The least world in which a column is true, of those in which the source is active. None where it is true in none of these.
+pub fn world_of_column(
+    alloc: Global,
+    encoder: &mut Encoder<'_, '_>,
+    asked: &Asked<'_>,
+    place: usize,
+) -> Result<Option<World>, NoMemory> {
+    let column = column(alloc, encoder, asked, place)?;
+    let there = while_active(encoder, column, asked.source)?;
+    let decided = encoder.decided(alloc, there)?;
+    least_world(alloc, encoder, decided)
 }

@@ -11,5 +11,8 @@ mod noting;
 mod telling;
 mod verdicts;
 
+pub use asking::world_of_column;
 pub use enabled::tell_enabled;
-pub use noting::checked_notes;
+pub use instances::Asked;
+pub use noting::{NODES, checked_notes};
+pub use telling::cell_place;

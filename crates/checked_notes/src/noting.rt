@@ -28,7 +28,7 @@ struct Subject<'s> {
 }
 
 /// By how many nodes the diagrams grow for notes and for mends, each: so many are made in less than a second.
-const NODES: usize = 400_000;
+pub const NODES: usize = 400_000;
 
 /// Tells for which group memory is refused.
 fn tell_refusal(notes: &mut Notes<'_>, scene: &Scene<'_, '_>) -> Result<(), NoMemory> {
@@ -71,13 +71,13 @@ fn tell_scene(
 }
 
 /// Makes the text without comments.
-fn tell_named(
+fn tell_named<'a>(
     notes: &mut Notes<'_>,
-    subject: Subject<'_>,
-    machine: &Machine<'_>,
+    subject: Subject<'a>,
+    machine: &Machine<'a>,
     chains: &Chains<'_>,
-    globals: &Globals<'_>,
-    texts: &Texts<'_>,
+    globals: &Globals<'a>,
+    texts: &Texts<'a>,
 ) -> Result<(), NoMemory> {
     let source = Source::new(notes.alloc(), subject.file, notes.text());
     let scene = Scene {
@@ -91,22 +91,22 @@ fn tell_named(
 }
 
 /// Makes the names of the instances.
-fn tell_known(
+fn tell_known<'a>(
     notes: &mut Notes<'_>,
-    subject: Subject<'_>,
-    machine: &Machine<'_>,
+    subject: Subject<'a>,
+    machine: &Machine<'a>,
     chains: &Chains<'_>,
-    globals: &Globals<'_>,
+    globals: &Globals<'a>,
 ) -> Result<(), NoMemory> {
     let texts = Texts::build(notes.alloc(), subject.checked)?;
     tell_named(notes, subject, machine, chains, globals, &texts)
 }
 
 /// Makes the table of the global names.
-fn tell_chained(
+fn tell_chained<'a>(
     notes: &mut Notes<'_>,
-    subject: Subject<'_>,
-    machine: &Machine<'_>,
+    subject: Subject<'a>,
+    machine: &Machine<'a>,
     chains: &Chains<'_>,
 ) -> Result<(), NoMemory> {
     let globals = Globals::new(notes.alloc(), subject.checked.spec().decls.as_slice())?;

@@ -35,7 +35,7 @@ impl Reading {
 }
 
 /// Where the cell of a column stands in the first row of the table that begins behind an offset.
-fn cell_place(text: &[u8], from: usize, column: usize) -> usize {
+pub fn cell_place(text: &[u8], from: usize, column: usize) -> usize {
     let mut reading = Reading {
         in_comment: false,
         behind_bar: false,

@@ -1,4 +1,5 @@
-ghost use Rattle.std.specs.Prelude.{◌≡◌, ◌≢◌, ◌<◌, ◌≤◌, ◌^◌, ◌∷◌, ◌++◌, ℕ, List, [], IfOk, IfSome, Some, length, slice_get};
+ghost use Rattle.std.specs.Prelude.{◌≡◌, ◌≢◌, ◌<◌, ◌≤◌, ◌^◌, ◌∷◌, ◌++◌, ℕ, List, [], IfOk, IfSome, Some, length, map, slice_get};
+ghost use Rattle.std.specs.Option.{option_copied};
 ghost use Rattle.std.specs.List.{AllZip};
 ghost use Rattle.rsml_io.specs.Counts.{Rose};
 ghost use Rattle.rsml_meaning.specs.Certified.{Certified};
@@ -95,6 +96,16 @@ fn of_cases(alloc: Global, machine: &Machine<'_>) -> Result<Vec<Counter>, NoMemo
         counters.push(Counter::new(alloc, machine.send_case(number).guard())?)?;
     }
     Ok(counters)
+}
+
+/// What the counter of a number counted.
+fn tally_at(counters: &[Counter], number: u32) -> Option<&Tally>
+    ensures { option_copied result ≡ slice_get (map (λ k. k.tally) counters.now) number }
+{
+    match counters.get(number as usize) {
+        Some(counter) => Some(&counter.tally),
+        None => None,
+    }
 }
 
 impl<'m, 'a> Counts<'m, 'a> {
@@ -209,21 +220,19 @@ impl<'m, 'a> Counts<'m, 'a> {
         put_sums(out, events, of_transitions + of_cases);
     }
 
-    /// What is counted of the transition of a number.
-    pub fn transition(&self, number: u32) -> &Tally
-        requires { number < length self.now.transitions }
-        ensures { slice_get self.now.transitions number ≡ Some result.now }
+    /// What is counted of the transition of a number, if there is one.
+    pub fn transition(&self, number: u32) -> Option<&Tally>
+        ensures { option_copied result ≡ slice_get self.now.transitions number }
     {
         let _ = &self.machine;
-        &self.transitions[number as usize].tally
+        tally_at(self.transitions.as_slice(), number)
     }
 
-    /// What is counted of the case of a send of a number.
-    pub fn send_case(&self, number: u32) -> &Tally
-        requires { number < length self.now.send_cases }
-        ensures { slice_get self.now.send_cases number ≡ Some result.now }
+    /// What is counted of the case of a send of a number, if there is one.
+    pub fn send_case(&self, number: u32) -> Option<&Tally>
+        ensures { option_copied result ≡ slice_get self.now.send_cases number }
     {
         let _ = &self.machine;
-        &self.send_cases[number as usize].tally
+        tally_at(self.send_cases.as_slice(), number)
     }
 }

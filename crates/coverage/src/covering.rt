@@ -6,6 +6,7 @@ ghost use Rattle.simulator.specs.Simulating.{Follows};
 ghost use Rattle.coverage.specs.Outputs.{text_of};
 ghost use Rattle.coverage.specs.Text.{covers};
 
+use crate::counted_file::CountedFile;
 use crate::counts::Counts;
 use elaborate::Machine;
 use event_file::Limits;
@@ -39,19 +40,19 @@ fn put_output<W: Writer>(
 
 /// Counts the run of an event file of a certified specification, and writes what it covers; or the line of the first fault of the file.
 /// All memory is taken before the file is read.
-pub fn cover<'a, F: Files, K: Sink>(
+pub fn cover<'m, 'a, F: Files, K: Sink>(
     alloc: Global,
     checked: &'a Checked,
-    machine: &Machine<'a>,
+    machine: &'m Machine<'a>,
     limits: Limits,
     files: &mut F,
     name: &str,
     sink: &mut K,
-) -> Result<SimEnd, NoMemory>
+) -> Result<CountedFile<'m, 'a>, NoMemory>
     requires machine { machine.now.base.spec ≡ checked.now }
     requires certified { Certified checked.now }
     requires limits { IsAllowed limits }
-    ensures follows { IfOk result (Follows covers checked.now (limits_of limits) (record {
+    ensures follows { IfOk result (λ counted. Follows covers checked.now (limits_of limits) (record {
       told = F.contents files.old name.now;
       reach = F.reach files.old name.now;
       reach_after = F.reach files.new name.now;
@@ -61,7 +62,7 @@ pub fn cover<'a, F: Files, K: Sink>(
       written_after = K.written sink.new;
       writes_refused = K.faults sink.old;
       writes_refused_after = K.faults sink.new;
-    })) }
+    }) counted.end) }
     ensures refused { OnErr result ((files.new ≡ files.old) × (sink.new ≡ sink.old)) }
     ensures contents { (file : List ℕ) → F.contents files.new file ≡ F.contents files.old file }
     ensures count { (file : List ℕ) → F.faults files.old file ≤ F.faults files.new file }
@@ -77,8 +78,16 @@ pub fn cover<'a, F: Files, K: Sink>(
     let mut out = BufferedSink::new(sink, &mut buffer);
     put_output(&mut out, checked, &texts, &counts, end);
     if out.finish() {
-        Ok(end)
+        Ok(CountedFile {
+            end,
+            counts,
+            simulator,
+        })
     } else {
-        Ok(SimEnd::WriteFault)
+        Ok(CountedFile {
+            end: SimEnd::WriteFault,
+            counts,
+            simulator,
+        })
     }
 }

@@ -1,6 +1,7 @@
 //! How often a run takes each transition and each case of a send, and makes each column of their tables true.
 #![tactic(auto)]
 
+mod counted_file;
 mod counter;
 mod counts;
 mod covering;
@@ -9,6 +10,7 @@ mod rounds;
 mod tally;
 mod texts;
 
+pub use counted_file::CountedFile;
 pub use counts::Counts;
 pub use covering::cover;
 pub use laws::what_reacts_is_taken;

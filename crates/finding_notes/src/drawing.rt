@@ -1,7 +1,7 @@
 //! Tables of members, drawn with the cells that fail.
 
 use crate::holdings::put_padded;
-use crate::{TruthTable, fails, is_true};
+use crate::{TruthTable, cell_at, fails, is_true};
 use and_or_tables::{GroundRow, Truths};
 use ground_groups::Member;
 use rsml_base::NoMemory;
@@ -147,4 +147,24 @@ pub fn tell_member(
         }
         None => Ok(()),
     }
+}
+
+/// Tells one column of a table that is the first behind an offset.
+pub fn tell_column(
+    notes: &mut Notes<'_>,
+    text: &[u8],
+    rows: &[GroundRow],
+    from: usize,
+    column: usize,
+) -> Result<(), NoMemory> {
+    let phrases = phrases(notes.alloc(), text, from)?;
+    let width = width(phrases.as_slice());
+    for (place, row) in rows.iter().enumerate() {
+        let mut line = notes.line("    ");
+        put_padded(&mut line, text_at(phrases.as_slice(), place), width);
+        line.put(b" | ");
+        line.put(letter(cell_at(row, column)));
+        notes.keep(line);
+    }
+    Ok(())
 }

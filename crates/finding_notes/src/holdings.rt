@@ -144,10 +144,11 @@ fn tell_held(
     Ok(())
 }
 
-/// Tells what is read of a world.
+/// Tells what is read of a world, behind these words.
 pub fn tell_world(
     notes: &mut Notes<'_>,
     scene: &Scene<'_, '_>,
+    words: &str,
     reads: &Reads,
     world: &World,
 ) -> Result<(), NoMemory> {
@@ -155,7 +156,7 @@ pub fn tell_world(
     if width == 0 {
         return Ok(());
     }
-    notes.say("where");
+    notes.say(words);
     let tree = scene.machine.tree();
     for place in 0..places(tree, world) {
         if let Some(held) = held_at(tree, reads, world, place) {

@@ -4,6 +4,7 @@
 
 mod diagrams;
 mod drawing;
+mod examples;
 mod finding;
 mod heads;
 mod holdings;
@@ -19,6 +20,8 @@ mod truth_table;
 mod truths;
 
 pub use diagrams::Added;
+pub use drawing::tell_column;
+pub use examples::tell_example;
 pub use members::{member_at, member_count};
 pub use refused::tell_refused;
 pub use soundness::{Change, columns_stay, is_sound_with};

@@ -1,11 +1,12 @@
 //! What a group reads of a world: components, cells and phrases, also those behind macros, functions and quantifiers.
 
-use crate::{member_at, member_count, rows_of};
+use crate::{cell_at, member_at, member_count, rows_of};
 use and_or_tables::GroundRow;
 use elaborate::Machine;
 use ground_groups::GroupKind;
 use rsml_base::NoMemory;
 use rsml_ground::{Definition, GroundCase, GroundOperand, GroundPhrase, GroundSum};
+use rsml_syntax::Cell;
 use state_tree::Tree;
 use std::alloc::Global;
 use written_members::{definition_of, guard_of};
@@ -183,5 +184,24 @@ fn read_guards(reads: &mut Reads, machine: &Machine<'_>, group: u32) {
 pub fn read_group(reads: &mut Reads, machine: &Machine<'_>, group: u32) {
     read_condition(reads, machine, group);
     read_guards(reads, machine, group);
+    read_named(reads, machine);
+}
+
+/// Reads what a column of rows asks for, and whether a state is active.
+pub fn read_column(
+    reads: &mut Reads,
+    machine: &Machine<'_>,
+    rows: &[GroundRow],
+    column: usize,
+    state: Option<u32>,
+) {
+    if let Some(state) = state {
+        read_state(reads, machine.tree(), state);
+    }
+    for row in rows {
+        if cell_at(row, column) != Cell::Dot {
+            reads.mark(Read::Phrase(row.phrase));
+        }
+    }
     read_named(reads, machine);
 }

@@ -24,7 +24,7 @@ fn tell_read(
 ) -> Result<(), NoMemory> {
     let mut reads = Reads::new(notes.alloc(), scene.machine)?;
     read_group(&mut reads, scene.machine, finding.group);
-    tell_world(notes, scene, &reads, finding.world)
+    tell_world(notes, scene, "where", &reads, finding.world)
 }
 
 /// Tells the first members that are shown.

@@ -71,7 +71,7 @@ fn follow_certified<F: Files, K: Sink>(
             Err(NoMemory) => Status::NoMemory,
         },
         EventAction::Cover => match cover(alloc, checked, &machine, limits, files, events, sink) {
-            Ok(end) => status_of(end),
+            Ok(counted) => status_of(counted.end),
             Err(NoMemory) => Status::NoMemory,
         },
     }

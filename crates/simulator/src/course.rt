@@ -232,6 +232,14 @@ impl<'m, 'a> Course<'m, 'a> {
         self.turns.sent()
     }
 
+    /// The last line that was read.
+    pub fn line(&self) -> &[u8]
+        ensures { result.now ≡ self.now.reading.line }
+    {
+        let _ = &self.turns;
+        self.reader.line()
+    }
+
     /// The truths of the rows of a member's table in the world before the last round, as bits.
     pub fn rows(&mut self, member: Member) -> u64
         ensures rows { result ≡ bits_of (member_rows self.old.spec self.old.last.world member) }

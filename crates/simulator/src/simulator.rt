@@ -143,6 +143,14 @@ impl<'m, 'a> Simulator<'m, 'a> {
         self.course.sent()
     }
 
+    /// The last line that was read, without one CR at its end: where `next_event` answered a fault of a line, this one.
+    pub fn line(&self) -> &[u8]
+        ensures { result.now ≡ self.now.reading.line }
+    {
+        let _ = &self.buffer;
+        self.course.line()
+    }
+
     /// The truths of the rows of a member's table in the world before the last round, which is the first world where there was none: bit
     /// k, from 0, is that of row k + 1. 0 for a guard `always`, and where there is no such member. What was not needed to know what is
     /// enabled is worked out now, and kept until the next round. It takes no memory.
