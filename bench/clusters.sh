@@ -29,6 +29,8 @@ done
 family agreement 2 3 4 5 6 8
 family greatest 2 4 6 8
 family grid 2 3 4 8
+family halls 2 8 20
+family districts 2 8 20
 [ $# -eq 0 ] || names=("$@")
 
 take_program

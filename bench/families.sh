@@ -269,6 +269,45 @@ ${macros}macro Some {$some }
 macro All { every k of $((n * n)) : Load[k] <= 100 | T; }"
 }
 
+# Halls of sixteen loads, each with the rows and columns of its square: 16 cells for each.
+halls() {
+  local k macros='' inputs='' cells='' some='' all=''
+  for ((k = 1; k <= 16; k++)); do
+    inputs="${inputs}input Load_$k [$1] : Kilogram = 0;"$'\n'
+    cells="$cells${cells:+, }Load_$k[this]"
+    all="$all every h of $1 : Load_$k[h] <= 100 | T;"
+  done
+  for ((k = 1; k <= 4; k++)); do
+    macros="${macros}macro Row_$k [$1] { Load_$((4 * k - 3))[this] + Load_$((4 * k - 2))[this] + Load_$((4 * k - 1))[this] + Load_$((4 * k))[this] > 400 | T; }"$'\n'
+    macros="${macros}macro Column_$k [$1] { Load_$k[this] + Load_$((k + 4))[this] + Load_$((k + 8))[this] + Load_$((k + 12))[this] > 400 | T; }"$'\n'
+    some="$some macro Row_$k[this] |$(columns "$k" 8); macro Column_$k[this] |$(columns $((4 + k)) 8);"
+  done
+  watched "${2:+Load_1[1] = 100}" "range Kilogram 0 .. 1000;
+${inputs}receive Scale [$1] ($cells) raise Second;
+${macros}macro Full [$1] {$some }
+macro Some { some h of $1 : macro Full[h] | T; }
+macro All {$all }"
+}
+
+# Districts of eight feeders, with sums of three and four of them, each of which stands in several: 8 cells for each.
+districts() {
+  local k j macros='' inputs='' cells='' some='' all='' sum
+  for ((k = 1; k <= 8; k++)); do
+    inputs="${inputs}input Load_$k [$1] : Ampere = 0;"$'\n'
+    cells="$cells${cells:+, }Load_$k[this]"
+    all="$all every d of $1 : Load_$k[d] < 300 | T;"
+    sum=
+    for ((j = 0; j < 3; j++)); do sum="$sum${sum:+ + }Load_$(((k - 1 + j) % 8 + 1))[this]"; done
+    macros="${macros}macro Over_$k [$1] { $sum > 900 | T .; $sum + Load_$(((k + 2) % 8 + 1))[this] > 1200 | . T; }"$'\n'
+    some="$some macro Over_$k[this] |$(columns "$k" 8);"
+  done
+  watched "${2:+Load_1[1] + Load_2[1] + Load_3[1] > 890}" "range Ampere 0 .. 600;
+${inputs}receive Meter [$1] ($cells) raise Second;
+${macros}macro Over [$1] {$some }
+macro Some { some d of $1 : macro Over[d] | T; }
+macro All {$all }"
+}
+
 # Times since which units run, against the time of day.
 timers() {
   watched "${2:+Since[1] = 40000}" "range Seconds 0 .. 86400;
