@@ -1,0 +1,9 @@
+pub mod ColumnLists
+pub mod Ends
+pub mod GroupLemmas
+pub mod LaterParts
+pub mod PartAnswers
+pub mod Places
+pub mod Questions
+pub mod Steps
+pub mod Unread
