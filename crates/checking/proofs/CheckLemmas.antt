@@ -21,7 +21,7 @@ use Rattle.answering.specs.declared.outcome.Outcome.TheVariants as outcome
 use Rattle.answering.specs.declared.status.Status.{Status}
 use Rattle.answering.specs.declared.status.Status.TheVariants as status
 use Rattle.answering.proofs.OutcomeLemmas.{fault_of_text, done_of_text, refused_of_text, long_of_text}
-use Rattle.checking.specs.Outputs.{SpecificationOutput, CheckOutput, FormatOutput, MigrateOutput}
+use Rattle.checking.specs.Outputs.{TextFault, SpecificationOutput, CheckOutput, FormatOutput, MigrateOutput}
 use Rattle.checking.specs.Outputs as output
 use Rattle.checking.specs.Steps.{outcome_of, IsFormed, IsLaidOut}
 
@@ -29,11 +29,11 @@ use Rattle.checking.specs.Steps.{outcome_of, IsFormed, IsLaidOut}
 
 -- by what the text is judged to be
 pub judged_output : (text : Bytes) (j : Judgement) → IsJudgement text j → CheckOutput text (answer_of (outcome_of j)) (bytes_of (outcome_of j))
-judged_output text judgement.TooLong h = output.CheckOutput.too_long h refl refl
-judged_output text (judgement.Unread line) h = output.CheckOutput.unread h refl
-judged_output text (judgement.Broken line) h = output.judged h.0 h.1 (output.broken h.2 refl)
-judged_output text (judgement.Refused report checked verdicts) h = output.judged h.0 h.1 (output.refused h.2.1 h.2.2 refl)
-judged_output text (judgement.Certified report checked) h = output.judged h.0 h.1 (output.certified h.2.1 h.2.2 refl)
+judged_output text judgement.TooLong h = output.fault (output.TextFault.too_long h refl refl)
+judged_output text (judgement.Unread line) h = output.fault (output.TextFault.unread h refl)
+judged_output text (judgement.Broken line) h = output.fault (output.broken h.0 h.1 h.2 refl)
+judged_output text (judgement.Refused report checked verdicts) h = output.judged h.0 h.1 h.2.1 (output.refused h.2.2 refl)
+judged_output text (judgement.Certified report checked) h = output.judged h.0 h.1 h.2.1 (output.certified h.2.2 refl)
 
 pub check_output : (text : Bytes) (j : Judgement) (o : Outcome) → o ≡ outcome_of j → IsJudgement text j → CheckOutput text (answer_of o) (bytes_of o)
 check_output text j o e h = subst (λ (x : Outcome). CheckOutput text (answer_of x) (bytes_of x)) (sym e) (judged_output text j h)
@@ -89,15 +89,18 @@ migrate_output text read (Err x) is h = h
 
 -- They answer and write what may be answered and written of texts.
 
+pub fault_answers : (text : Bytes) (answer : Status) (bytes : Bytes) → TextFault text answer bytes → IsOfText answer
+fault_answers text answer bytes (output.TextFault.too_long _ e _) = long_of_text answer e
+fault_answers text answer bytes (output.TextFault.unread _ e) = fault_of_text answer e
+fault_answers text answer bytes (output.broken s t _ e) = fault_of_text answer e
+
 specification_answers : (s : Spec) (answer : Status) (bytes : Bytes) → SpecificationOutput s answer bytes → IsOfText answer
-specification_answers s answer bytes (output.broken _ e) = fault_of_text answer e
-specification_answers s answer bytes (output.refused _ _ e) = refused_of_text answer e
-specification_answers s answer bytes (output.certified _ _ e) = done_of_text answer e
+specification_answers s answer bytes (output.refused _ e) = refused_of_text answer e
+specification_answers s answer bytes (output.certified _ e) = done_of_text answer e
 
 pub check_answers : (text : Bytes) (answer : Status) (bytes : Bytes) → CheckOutput text answer bytes → IsOfText answer
-check_answers text answer bytes (output.CheckOutput.too_long _ e _) = long_of_text answer e
-check_answers text answer bytes (output.CheckOutput.unread _ e) = fault_of_text answer e
-check_answers text answer bytes (output.judged s t o) = specification_answers s answer bytes o
+check_answers text answer bytes (output.fault f) = fault_answers text answer bytes f
+check_answers text answer bytes (output.judged s t keeps o) = specification_answers s answer bytes o
 
 format_answers : (text : Bytes) (answer : Status) (bytes : Bytes) → FormatOutput text answer bytes → IsOfText answer
 format_answers text answer bytes (output.FormatOutput.too_long _ e _) = long_of_text answer e
@@ -110,7 +113,7 @@ migrate_answers text answer bytes (output.MigrateOutput.unread _ e) = fault_of_t
 migrate_answers text answer bytes (output.migrated s t e _) = done_of_text answer e
 
 pub checks_texts : IsOfTexts CheckOutput
-checks_texts = record { answers = check_answers; long = λ text l. output.CheckOutput.too_long l refl refl }
+checks_texts = record { answers = check_answers; long = λ text l. output.fault (output.TextFault.too_long l refl refl) }
 
 pub formats_texts : IsOfTexts FormatOutput
 formats_texts = record { answers = format_answers; long = λ text l. output.FormatOutput.too_long l refl refl }

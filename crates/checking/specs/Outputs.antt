@@ -12,17 +12,22 @@ use Rattle.answering.specs.Lines as lines
 use Rattle.answering.specs.declared.status.Status.{Status}
 use Rattle.answering.specs.declared.status.Status.TheVariants as status
 
--- What `check` answers and writes of a specification.
+-- What is answered and written of a text that is too long, reads as no specification, or as one that breaks a rule or a limit: the line that
+-- tells so.
+pub data TextFault (text : Bytes) (answer : Status) (bytes : Bytes) : Type 0 where
+  too_long : greatest_text < length text → answer ≡ status.TooLong → bytes ≡ lines.long → TextFault text answer bytes
+  unread : IsUnread text bytes → answer ≡ status.SpecFault → TextFault text answer bytes
+  broken : (s : Spec) → IsTextOf text s → IsBroken s bytes → answer ≡ status.SpecFault → TextFault text answer bytes
+
+-- What `check` answers and writes of a specification that keeps the rules and the limits.
 pub data SpecificationOutput (s : Spec) (answer : Status) (bytes : Bytes) : Type 0 where
-  broken : IsBroken s bytes → answer ≡ status.SpecFault → SpecificationOutput s answer bytes
-  refused : Keeps s → IsRefusal s bytes → answer ≡ status.Refused → SpecificationOutput s answer bytes
-  certified : Keeps s → IsCertificate s bytes → answer ≡ status.Done → SpecificationOutput s answer bytes
+  refused : IsRefusal s bytes → answer ≡ status.Refused → SpecificationOutput s answer bytes
+  certified : IsCertificate s bytes → answer ≡ status.Done → SpecificationOutput s answer bytes
 
 -- What `check` answers and writes.
 pub data CheckOutput (text : Bytes) (answer : Status) (bytes : Bytes) : Type 0 where
-  too_long : greatest_text < length text → answer ≡ status.TooLong → bytes ≡ lines.long → CheckOutput text answer bytes
-  unread : IsUnread text bytes → answer ≡ status.SpecFault → CheckOutput text answer bytes
-  judged : (s : Spec) → IsTextOf text s → SpecificationOutput s answer bytes → CheckOutput text answer bytes
+  fault : TextFault text answer bytes → CheckOutput text answer bytes
+  judged : (s : Spec) → IsTextOf text s → Keeps s → SpecificationOutput s answer bytes → CheckOutput text answer bytes
 
 -- What `format` answers and writes: the layout of the specification that the text reads as. The rules are not judged.
 pub data FormatOutput (text : Bytes) (answer : Status) (bytes : Bytes) : Type 0 where

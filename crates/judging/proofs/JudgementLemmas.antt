@@ -15,12 +15,14 @@ use Rattle.rsml_syntax.specs.limits.Limits.{Keeps, over}
 use Rattle.rsml_syntax.specs.rules.Rules.{broken_rule}
 use Rattle.rsml_meaning.specs.EventLines.{Bytes}
 use Rattle.judging.specs.Headline.{IsRightReport, IsCertificate, IsRefusal, EndsInLine}
-use Rattle.judging.specs.Judgements.{IsBroken, IsJudged, IsJudgement}
+use Rattle.judging.specs.Judgements.{IsBroken, IsKept, IsJudged, IsJudgement}
 use Rattle.judging.specs.Judgements as judged
 use Rattle.judging.specs.Steps.{IsRuleLine, rule, limit}
 use Rattle.judging.specs.Texts.{IsTextOf}
 use Rattle.judging.specs.declared.judging.Judgement.{Judgement}
 use Rattle.judging.specs.declared.judging.Judgement.TheVariants as judgement
+use Rattle.judging.specs.declared.kept_text.Kept.{Kept}
+use Rattle.judging.specs.declared.kept_text.Kept.TheVariants as kept
 use Rattle.judging.proofs.LastLines.{ends_certified, ends_refused}
 
 right_report : (s : Spec) (bytes : Bytes) → IsReport s bytes → IsRightReport s bytes
@@ -54,6 +56,19 @@ pub broken : (s : Spec) (error : RuleError) (line : Bytes)
     → IsRuleLine error line → IsBroken s line
 broken s error line rules limits (rule number name e is) = judged.IsBroken.rule _ (rules number name e) is
 broken s error line rules limits (limit number count e is) = judged.IsBroken.limit _ (limits number count e).0 (limits number count e).1 is
+
+-- what a text is, by what it reads as and what keeping the rules and the limits came to
+pub read_kept : (text : Bytes) (s : Spec) (checked : Spec) → checked ≡ s → Keeps s → IsTextOf text s → IsTextOf text checked × Keeps checked
+read_kept text s checked e keeps t = (subst (IsTextOf text) (sym e) t, subst (λ (x : Spec). Keeps x) (sym e) keeps)
+
+pub checked_is : (text : Bytes) (k : Kept) (s : Spec) → k ≡ kept.Checked s → IsKept text k → IsTextOf text s × Keeps s
+checked_is text k s e h = subst (IsKept text) e h
+
+pub unread_is : (text : Bytes) (k : Kept) (line : Vec ℕ Global) → k ≡ kept.Unread line → IsKept text k → IsJudgement text (judgement.Unread line)
+unread_is text k line e h = subst (IsKept text) e h
+
+pub broken_is : (text : Bytes) (k : Kept) (line : Vec ℕ Global) → k ≡ kept.Broken line → IsKept text k → IsJudgement text (judgement.Broken line)
+broken_is text k line e h = subst (IsKept text) e h
 
 -- the judgement of the specification that a text reads as is that of the text
 pub judgement_of : (text : Bytes) (s : Spec) (j : Judgement) → IsTextOf text s → IsJudged s j → IsJudgement text j

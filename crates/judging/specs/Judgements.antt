@@ -11,11 +11,20 @@ use Rattle.judging.specs.Headline.{IsCertificate, IsRefusal}
 use Rattle.judging.specs.Texts.{IsTextOf, IsUnread, greatest_text}
 use Rattle.judging.specs.declared.judging.Judgement.{Judgement}
 use Rattle.judging.specs.declared.judging.Judgement.TheVariants as judgement
+use Rattle.judging.specs.declared.kept_text.Kept.{Kept}
+use Rattle.judging.specs.declared.kept_text.Kept.TheVariants as kept
 
 -- The specification breaks a rule, or keeps the rules and breaks a limit: the line tells the lowest.
 pub data IsBroken (s : Spec) (line : Bytes) : Type 0 where
   rule : (b : Breach) → broken_rule s ≡ Some b → line ≡ lines.rule b → IsBroken s line
   limit : (count : ℕ × ℕ) → broken_rule s ≡ None → over s ≡ Some count → line ≡ lines.limit count → IsBroken s line
+
+-- what the bytes of a specification are, without its analysis
+abbrev pub IsKept : Bytes → Kept → Type 0
+IsKept text kept.TooLong = greatest_text < length text
+IsKept text (kept.Unread line) = IsUnread text line.items
+IsKept text (kept.Broken line) = (s : Spec) × IsTextOf text s × IsBroken s line.items
+IsKept text (kept.Checked s) = IsTextOf text s × Keeps s
 
 -- what a specification is judged to be
 abbrev pub IsJudged : Spec → Judgement → Type 0

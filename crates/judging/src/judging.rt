@@ -1,16 +1,13 @@
 ghost use Rattle.std.specs.Prelude.{◌≡◌, IfOk};
 ghost use Rattle.rsml_ground.specs.Grounded.{IsShort};
-ghost use Rattle.rsml_syntax.specs.grammar.WellFormed.{WellFormed};
 ghost use Rattle.judging.specs.Judgements.{IsJudged, IsJudgement};
 
-use crate::fault_lines::rule_fault;
-use crate::texts::{ReadText, read_text};
+use crate::keeping::kept;
+use crate::kept_text::Kept;
 use analysis::{Analysed, Report, analysis};
 use finding_texts::Verdict;
-use rsml_lexer::GREATEST_TEXT;
 use rsml_meaning::{certified_specifications_are_deterministic, last_lines_tell_the_verdict};
-use rsml_rules::check_rules;
-use rsml_syntax::{Checked, NoMemory, Spec};
+use rsml_syntax::{Checked, NoMemory};
 use std::alloc::Global;
 
 /// What the bytes of a specification are. `docs/formats.md` has the lines and the report.
@@ -75,30 +72,15 @@ fn analyse(alloc: Global, checked: Checked) -> Result<Judgement, NoMemory>
     }
 }
 
-/// Judges a specification.
-fn judge_specification(alloc: Global, spec: Spec) -> Result<Judgement, NoMemory>
-    requires formed { WellFormed spec }
-    requires short { IsShort spec }
-    ensures { IfOk result (IsJudged spec) }
-{
-    match check_rules(alloc, spec) {
-        Ok(checked) => analyse(alloc, checked),
-        Err(error) => Ok(Judgement::Broken {
-            line: rule_fault(alloc, error)?,
-        }),
-    }
-}
-
 /// Judges the bytes of a specification, whatever they are: whether they read, keep the rules and the
 /// limits, and are certified. The only error is out of memory.
 pub fn judge(alloc: Global, text: &[u8]) -> Result<Judgement, NoMemory>
     ensures { IfOk result (IsJudgement text.now) }
 {
-    if text.len() > GREATEST_TEXT {
-        return Ok(Judgement::TooLong);
-    }
-    match read_text(alloc, text)? {
-        ReadText::Specification(spec) => judge_specification(alloc, spec),
-        ReadText::Fault(line) => Ok(Judgement::Unread { line }),
+    match kept(alloc, text)? {
+        Kept::TooLong => Ok(Judgement::TooLong),
+        Kept::Unread { line } => Ok(Judgement::Unread { line }),
+        Kept::Broken { line } => Ok(Judgement::Broken { line }),
+        Kept::Checked(checked) => analyse(alloc, checked),
     }
 }

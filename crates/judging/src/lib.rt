@@ -3,7 +3,11 @@
 
 mod fault_lines;
 mod judging;
+mod keeping;
+mod kept_text;
 mod texts;
 
 pub use judging::{Judgement, judge};
+pub use keeping::kept;
+pub use kept_text::Kept;
 pub use texts::{ReadText, read_first_edition, read_text};
