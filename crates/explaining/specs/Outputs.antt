@@ -5,10 +5,14 @@ use Rattle.source_notes.specs.Comments.{AreComments}
 use Rattle.answering.specs.declared.status.Status.{Status}
 use Rattle.checking.specs.Outputs.{CheckOutput}
 
--- What `explain` answers and writes: what `check` does, and comment lines behind it.
-pub record ExplainOutput (text : Bytes) (answer : Status) (bytes : Bytes) : Type 0 where
+-- The bytes are those of a report that is such, and comment lines behind it.
+pub record WithNotes (Is : Bytes → Type 0) (bytes : Bytes) : Type 0 where
   pub report : Bytes
   pub notes : Bytes
   pub split : bytes ≡ report ++ notes
-  pub checked : CheckOutput text answer report
+  pub reported : Is report
   pub comments : AreComments notes
+
+-- what `explain` answers and writes: what `check` does, and comment lines behind it
+abbrev pub ExplainOutput : Bytes → Status → Bytes → Type 0
+ExplainOutput text answer = WithNotes (CheckOutput text answer)

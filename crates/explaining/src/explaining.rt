@@ -1,9 +1,10 @@
-ghost use Rattle.std.specs.Prelude.{IfOk};
+ghost use Rattle.std.specs.Prelude.{◌≡◌, IfOk};
 ghost use Rattle.rsml_ground.specs.Grounded.{IsShort};
 ghost use Rattle.rsml_syntax.specs.grammar.WellFormed.{WellFormed};
 ghost use Rattle.source_notes.specs.Comments.{AreComments};
 ghost use Rattle.judging.specs.Judgements.{IsJudgement};
 ghost use Rattle.answering.specs.Outcomes.{answer_of, bytes_of};
+ghost use Rattle.checking.specs.Steps.{outcome_of};
 ghost use Rattle.explaining.specs.Outputs.{ExplainOutput};
 ghost use Rattle.explaining.specs.Steps.{IsFollowed};
 
@@ -92,13 +93,27 @@ fn followed_by(outcome: Outcome, notes: &[u8]) -> Result<Outcome, NoMemory>
     }
 }
 
+/// What `check` comes to on a text that is judged to be this, and comment lines behind it, which name this file.
+pub fn explained(
+    alloc: Global,
+    file: &[u8],
+    text: &[u8],
+    judgement: Judgement,
+) -> Result<Outcome, NoMemory>
+    requires { IsJudgement text.now judgement }
+    ensures output { IfOk result (λ o. ExplainOutput text.now (answer_of o) (bytes_of o)) }
+    ensures status { IfOk result (λ o. answer_of o ≡ answer_of (outcome_of judgement)) }
+{
+    let notes = notes_for(alloc, Source { file, text }, &judgement)?;
+    followed_by(judged(judgement), notes.as_slice())
+}
+
 /// What `explain` comes to on the text of a file with this name.
 pub fn explain(alloc: Global, file: &[u8], text: &[u8]) -> Result<Outcome, NoMemory>
     ensures { IfOk result (λ o. ExplainOutput text.now (answer_of o) (bytes_of o)) }
 {
     let judgement = judge(alloc, text)?;
-    let notes = notes_for(alloc, Source { file, text }, &judgement)?;
-    followed_by(judged(judgement), notes.as_slice())
+    explained(alloc, file, text, judgement)
 }
 
 /// Comment lines on a specification for which memory was refused; none where it breaks a rule or a limit.

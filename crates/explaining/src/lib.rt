@@ -3,4 +3,4 @@
 
 mod explaining;
 
-pub use explaining::{explain, memory_notes};
+pub use explaining::{explain, explained, memory_notes};

@@ -1,0 +1,12 @@
+//! What a person is told of how an event file covers a specification: comment lines behind what `cover` writes.
+#![tactic(auto)]
+
+mod covered;
+mod faults;
+mod noting;
+mod subject;
+mod telling;
+mod written;
+
+pub use noting::cover_notes;
+pub use subject::{Source, Subject};
