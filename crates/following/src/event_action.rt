@@ -5,4 +5,6 @@ pub enum EventAction {
     Simulate,
     /// Writes how often its run takes each transition and makes each column true.
     Cover,
+    /// Writes the same, and comment lines behind it.
+    ExplainCover,
 }

@@ -1,38 +1,26 @@
 ghost use Rattle.std.specs.Prelude.{◌≡◌, ◌≢◌, ◌≤◌, List, ℕ};
 ghost use Rattle.rsml_ground.specs.Grounded.{IsShort};
 ghost use Rattle.rsml_meaning.specs.Certified.{Certified};
-ghost use Rattle.following.specs.Outputs as output;
 ghost use Rattle.following.specs.Steps as steps;
 
+use crate::ends::{LIMITS, status_of};
 use crate::event_action::EventAction;
+use crate::noting::explain_cover;
 use crate::starting::{Start, start_in};
 use answering::{Status, answer};
+use cover_notes::{Source, Subject};
 use coverage::cover;
 use elaborate::elaborate;
-use event_file::Limits;
 use rsml_io::{Files, Sink};
 use rsml_syntax::{Checked, NoMemory};
-use simulator::{SimEnd, Simulator};
+use simulator::Simulator;
 use std::alloc::Global;
-
-/// How the command ends, by how following its event file ended.
-fn status_of(end: SimEnd) -> Status
-    ensures { result ≡ output.status_of end }
-{
-    match end {
-        SimEnd::Ended { .. } => Status::Done,
-        SimEnd::LineFault { .. } => Status::EventFault,
-        SimEnd::LineTooLong { .. } => Status::EventFault,
-        SimEnd::ReadFault => Status::ReadFault,
-        SimEnd::TooLong => Status::TooLong,
-        SimEnd::WriteFault => Status::WriteFault,
-    }
-}
 
 /// Follows an event file by a certified specification.
 fn follow_certified<F: Files, K: Sink>(
     alloc: Global,
     action: EventAction,
+    source: Source<'_>,
     checked: &Checked,
     events: &str,
     files: &mut F,
@@ -61,19 +49,23 @@ fn follow_certified<F: Files, K: Sink>(
         Ok(machine) => machine,
         Err(NoMemory) => return Status::NoMemory,
     };
-    let limits = Limits {
-        line: 4096,
-        file: 4_294_967_296,
-    };
     match action {
-        EventAction::Simulate => match Simulator::new(alloc, checked, &machine, limits) {
+        EventAction::Simulate => match Simulator::new(alloc, checked, &machine, LIMITS) {
             Ok(simulator) => status_of(simulator.run(files, events, sink)),
             Err(NoMemory) => Status::NoMemory,
         },
-        EventAction::Cover => match cover(alloc, checked, &machine, limits, files, events, sink) {
+        EventAction::Cover => match cover(alloc, checked, &machine, LIMITS, files, events, sink) {
             Ok(counted) => status_of(counted.end),
             Err(NoMemory) => Status::NoMemory,
         },
+        EventAction::ExplainCover => {
+            let subject = Subject {
+                source,
+                checked,
+                machine: &machine,
+            };
+            explain_cover(alloc, subject, events, files, sink)
+        }
     }
 }
 
@@ -104,8 +96,14 @@ pub fn follow<F: Files, K: Sink>(
     ensures others { (name : List ℕ) → name ≢ file.now → name ≢ events.now → F.reach files.new name ≡ F.reach files.old name }
     ensures sink_count { K.faults sink.old ≤ K.faults sink.new }
 {
-    match start_in(alloc, file, files) {
-        Start::Certified(checked) => follow_certified(alloc, action, &checked, events, files, sink),
+    match start_in(alloc, action, file, files) {
+        Start::Certified { checked, text } => {
+            let source = Source {
+                file: file.as_bytes(),
+                text: text.as_slice(),
+            };
+            follow_certified(alloc, action, source, &checked, events, files, sink)
+        }
         Start::Stopped(came) => answer(sink, came),
     }
 }

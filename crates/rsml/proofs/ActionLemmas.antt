@@ -1,5 +1,5 @@
 -- What the commands that act on one file answer and write of texts.
-use Rattle.std.proofs.Common.{◌≡◌, ◌<◌, Some, Result, length, refl, sym, ap, ◌∙◌, subst, lit<}
+use Rattle.std.proofs.Common.{◌≡◌, ◌<◌, ℕ, Some, Result, length, refl, sym, ap, ◌∙◌, subst, lit<}
 use Rattle.std.specs.Prelude.{IfOk, IfSome, Contains}
 use Rattle.rsml_base.specs.declared.no_memory.NoMemory.{NoMemory}
 use Rattle.rsml_io.specs.declared.read_error.ReadError.{ReadError}
@@ -13,10 +13,13 @@ use Rattle.answering.specs.declared.outcome.Outcome.{Outcome}
 use Rattle.answering.specs.declared.status.Status.{Status}
 use Rattle.answering.specs.declared.status.Status.TheVariants as status
 use Rattle.answering.proofs.OutcomeLemmas.{came_read, came_unread, came_written}
-use Rattle.checking.specs.Outputs.{SpecificationOutput, CheckOutput, FormatOutput, MigrateOutput}
+use Rattle.checking.specs.Outputs.{TextFault, SpecificationOutput, CheckOutput, FormatOutput, MigrateOutput}
 use Rattle.checking.specs.Outputs as output
 use Rattle.checking.proofs.CheckLemmas.{checks_texts, formats_texts, migrates_texts}
 use Rattle.explaining.proofs.ExplainLemmas.{explains_texts}
+use Rattle.gapping.specs.Outputs.{GapsOutput, tabulated}
+use Rattle.gapping.specs.Outputs as gapping
+use Rattle.gapping.proofs.GapLemmas.{gaps_texts, told_status}
 use Rattle.following.specs.declared.event_action.EventAction.{EventAction}
 use Rattle.rsml.specs.Commands.{Command, act, follow, specification_file, Names}
 use Rattle.rsml.specs.Commands as commands
@@ -31,6 +34,7 @@ acts_texts action.Check = checks_texts
 acts_texts action.Explain = explains_texts
 acts_texts action.Format = formats_texts
 acts_texts action.Migrate = migrates_texts
+acts_texts (action.Gaps most) = gaps_texts most
 
 -- what it came to on its file, by the text that was read, or by why it was not
 pub action_came : (does : Action) (f : FileUse) (text shown : Bytes) (r : Result Outcome NoMemory) → IfSome f.told (λ told. text ≡ told) → shown ≡ text
@@ -49,14 +53,17 @@ action_written does f = came_written (ActionOutput does) f (acts_texts does)
 -- The statuses with which it can end.
 
 of_specification : (s : Spec) (answer : Status) (bytes : Bytes) → SpecificationOutput s answer bytes → Contains judged_answers answer
-of_specification s answer bytes (output.broken _ e) = (2, lit< tt, sym e)
-of_specification s answer bytes (output.refused _ _ e) = (1, lit< tt, sym e)
-of_specification s answer bytes (output.certified _ _ e) = (0, lit< tt, sym e)
+of_specification s answer bytes (output.refused _ e) = (1, lit< tt, sym e)
+of_specification s answer bytes (output.certified _ e) = (0, lit< tt, sym e)
+
+of_fault : (text : Bytes) (answer : Status) (bytes : Bytes) → TextFault text answer bytes → Contains judged_answers answer
+of_fault text answer bytes (output.TextFault.too_long _ e _) = (3, lit< tt, sym e)
+of_fault text answer bytes (output.TextFault.unread _ e) = (2, lit< tt, sym e)
+of_fault text answer bytes (output.broken _ _ _ e) = (2, lit< tt, sym e)
 
 of_check : (text : Bytes) (answer : Status) (bytes : Bytes) → CheckOutput text answer bytes → Contains judged_answers answer
-of_check text answer bytes (output.CheckOutput.too_long _ e _) = (3, lit< tt, sym e)
-of_check text answer bytes (output.CheckOutput.unread _ e) = (2, lit< tt, sym e)
-of_check text answer bytes (output.judged s _ o) = of_specification s answer bytes o
+of_check text answer bytes (output.fault f) = of_fault text answer bytes f
+of_check text answer bytes (output.judged s _ _ o) = of_specification s answer bytes o
 
 of_format : (text : Bytes) (answer : Status) (bytes : Bytes) → FormatOutput text answer bytes → Contains layout_answers answer
 of_format text answer bytes (output.FormatOutput.too_long _ e _) = (2, lit< tt, sym e)
@@ -68,11 +75,18 @@ of_migrate text answer bytes (output.MigrateOutput.too_long _ e _) = (2, lit< tt
 of_migrate text answer bytes (output.MigrateOutput.unread _ e) = (1, lit< tt, sym e)
 of_migrate text answer bytes (output.migrated s _ e _) = (0, lit< tt, sym e)
 
+of_gaps : (most : ℕ) (text : Bytes) (answer : Status) (bytes : Bytes) → GapsOutput most text answer bytes → Contains judged_answers answer
+of_gaps most text answer bytes (gapping.fault f) = of_fault text answer bytes f
+of_gaps most text answer bytes (tabulated s _ _ h) =
+    subst (λ (a : Status). Contains judged_answers a) (sym h.ends)
+    (told_status h.answers (λ a. Contains judged_answers a) (0, lit< tt, refl) (1, lit< tt, refl))
+
 pub of_action : (does : Action) (file text : Bytes) (answer : Status) (bytes : Bytes) → ActionOutput does text answer bytes → Contains (answers_of (act does file)) answer
 of_action action.Check file text answer bytes h = of_check text answer bytes h
-of_action action.Explain file text answer bytes h = of_check text answer h.report h.checked
+of_action action.Explain file text answer bytes h = of_check text answer h.report h.reported
 of_action action.Format file text answer bytes h = of_format text answer bytes h
 of_action action.Migrate file text answer bytes h = of_migrate text answer bytes h
+of_action (action.Gaps most) file text answer bytes h = of_gaps most text answer bytes h
 
 -- those of a file that is too long, of refused reads and writes, and of memory
 pub long_is : (does : Action) (file : Bytes) → Contains (answers_of (act does file)) status.TooLong
@@ -80,24 +94,28 @@ long_is action.Check file = (3, lit< tt, refl)
 long_is action.Explain file = (3, lit< tt, refl)
 long_is action.Format file = (2, lit< tt, refl)
 long_is action.Migrate file = (2, lit< tt, refl)
+long_is (action.Gaps most) file = (3, lit< tt, refl)
 
 pub read_is : (does : Action) (file : Bytes) → Contains (answers_of (act does file)) status.ReadFault
 read_is action.Check file = (4, lit< tt, refl)
 read_is action.Explain file = (4, lit< tt, refl)
 read_is action.Format file = (3, lit< tt, refl)
 read_is action.Migrate file = (3, lit< tt, refl)
+read_is (action.Gaps most) file = (4, lit< tt, refl)
 
 pub write_is : (does : Action) (file : Bytes) → Contains (answers_of (act does file)) status.WriteFault
 write_is action.Check file = (5, lit< tt, refl)
 write_is action.Explain file = (5, lit< tt, refl)
 write_is action.Format file = (4, lit< tt, refl)
 write_is action.Migrate file = (4, lit< tt, refl)
+write_is (action.Gaps most) file = (5, lit< tt, refl)
 
 pub memory_is : (does : Action) (file : Bytes) → Contains (answers_of (act does file)) status.NoMemory
 memory_is action.Check file = (6, lit< tt, refl)
 memory_is action.Explain file = (6, lit< tt, refl)
 memory_is action.Format file = (5, lit< tt, refl)
 memory_is action.Migrate file = (5, lit< tt, refl)
+memory_is (action.Gaps most) file = (6, lit< tt, refl)
 
 -- The files that a command names.
 

@@ -1,4 +1,4 @@
 pub mod ActionLemmas
+pub mod CountLemmas
 pub mod OneOutput
 pub mod RunLemmas
-pub mod UnitLemmas

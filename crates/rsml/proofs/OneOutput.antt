@@ -16,17 +16,20 @@ use Rattle.simulator.specs.Outputs.{RunTexts, end_of, fault_line, done, faulty}
 use Rattle.simulator.specs.Outputs as events_file
 use Rattle.simulator.specs.declared.sim_end.SimEnd.{SimEnd}
 use Rattle.simulator.specs.declared.sim_end.SimEnd.TheVariants as end
+use Rattle.world_columns.specs.Laws.{GapsAreOne}
 use Rattle.judging.proofs.OneText.{one_text}
 use Rattle.answering.specs.declared.status.Status.{Status}
 use Rattle.checking.proofs.OneCheck.{AreOne, one_check, one_format, one_migrate, check_is_done}
 use Rattle.explaining.specs.Outputs.{ExplainOutput}
-use Rattle.following.specs.Outputs.{FollowOutput, status_of, texts_of}
+use Rattle.following.specs.Outputs.{EventOutput, FollowOutput, status_of, texts_of}
 use Rattle.following.specs.Outputs as following
 use Rattle.following.specs.declared.event_action.EventAction.{EventAction}
+use Rattle.following.specs.declared.event_action.EventAction.TheVariants as event_action
+use Rattle.gapping.proofs.OneGaps.{one_gaps}
 use Rattle.demonstrating.specs.Summary.{IsSummary}
 use Rattle.demonstrating.proofs.SummaryLemmas.{one_summary}
 use Rattle.rsml.specs.Commands.{Command, act, follow, demo, version, command_of}
-use Rattle.rsml.specs.Laws.{OutputIsOne, AreSame, whole, explained}
+use Rattle.rsml.specs.Laws.{OutputIsOne, AreSame, whole, explained, explained_cover}
 use Rattle.rsml.specs.Output.{ActionOutput, no_command, acted, demonstrated, versioned}
 use Rattle.rsml.specs.Output as output
 use Rattle.rsml.specs.Version.{version_text}
@@ -39,7 +42,7 @@ are_same words a b xs ys one = (one.0, whole one.1)
 -- what a command comes to
 abbrev OfCommand : (Bytes → Bytes) → Command → Status → Bytes → Type 0
 OfCommand contents (act does file) = ActionOutput does (contents file)
-OfCommand contents (follow does file events) = FollowOutput does (contents file) (contents events)
+OfCommand contents (follow does file events) = EventOutput does (contents file) (contents events)
 OfCommand contents (demo n) = λ answer bytes. IsSummary n bytes
 OfCommand contents version = λ answer bytes. bytes ≡ version_text
 
@@ -90,20 +93,21 @@ module _ (faults : AtMostOneFirstFault) (lists : AtMostOneTokenList) (never : Ne
   one_explain : ReportIsOne → (words : List Bytes) (file text : Bytes) → command_of words ≡ Some (act action.Explain file)
       → (a b : Status) (xs ys : Bytes) → ExplainOutput text a xs → ExplainOutput text b ys → (a ≡ b) × AreSame words xs ys
   one_explain one words file text is a b xs ys o p =
-      let same = one_check faults lists never answers one text a b o.report p.report o.checked p.checked in
+      let same = one_check faults lists never answers one text a b o.report p.report o.reported p.reported in
       (same.0, explained file o.report o.notes p.notes is o.split (p.split ∙ ap (λ zs. zs ++ p.notes) (sym same.1)) o.comments p.comments)
 
-  one_action : ReportIsOne → (does : Action) (words : List Bytes) (file text : Bytes) → command_of words ≡ Some (act does file)
+  one_action : ReportIsOne → GapsAreOne → (does : Action) (words : List Bytes) (file text : Bytes) → command_of words ≡ Some (act does file)
       → (a b : Status) (xs ys : Bytes) → ActionOutput does text a xs → ActionOutput does text b ys → (a ≡ b) × AreSame words xs ys
-  one_action one action.Check words file text is a b xs ys o p = are_same words a b xs ys (one_check faults lists never answers one text a b xs ys o p)
-  one_action one action.Explain words file text is a b xs ys o p = one_explain one words file text is a b xs ys o p
-  one_action one action.Format words file text is a b xs ys o p = are_same words a b xs ys (one_format faults lists never answers text a b xs ys o p)
-  one_action one action.Migrate words file text is a b xs ys o p = are_same words a b xs ys (one_migrate faults lists never answers text a b xs ys o p)
+  one_action one gaps action.Check words file text is a b xs ys o p = are_same words a b xs ys (one_check faults lists never answers one text a b xs ys o p)
+  one_action one gaps action.Explain words file text is a b xs ys o p = one_explain one words file text is a b xs ys o p
+  one_action one gaps action.Format words file text is a b xs ys o p = are_same words a b xs ys (one_format faults lists never answers text a b xs ys o p)
+  one_action one gaps action.Migrate words file text is a b xs ys o p = are_same words a b xs ys (one_migrate faults lists never answers text a b xs ys o p)
+  one_action one gaps (action.Gaps most) words file text is a b xs ys o p = are_same words a b xs ys (one_gaps gaps faults lists never answers most text a b xs ys o p)
 
   -- Commands.
 
   module _ (one : ReportIsOne) (no_fault : WellFormedHasNoFault) (of_line : FirstFaultIsOfLine) (scopes : RulesGiveScopes)
-      (runs : LinesHaveOneRun) (last : LastLineIsVerdict) where
+      (runs : LinesHaveOneRun) (last : LastLineIsVerdict) (gaps : GapsAreOne) where
     one_follow : (does : EventAction) (text content : Bytes) (a b : Status) (xs ys : Bytes) → FollowOutput does text content a xs
         → FollowOutput does text content b ys → AreOne a xs b ys
     one_follow does text content a b xs ys (following.checked n o) (following.checked m p) = one_check faults lists never answers one text a b xs ys o p
@@ -116,6 +120,23 @@ module _ (faults : AtMostOneFirstFault) (lists : AtMostOneTokenList) (never : Ne
         let same = one_following no_fault of_line scopes runs s c.keeps c.certified (texts_of does) content x y xs ys o q in
         (e ∙ ap status_of same.0 ∙ sym f, same.1)
 
+    one_cover : (words : List Bytes) (file events text content : Bytes) → command_of words ≡ Some (follow event_action.ExplainCover file events)
+        → (a b : Status) (xs ys : Bytes) → EventOutput event_action.ExplainCover text content a xs → EventOutput event_action.ExplainCover text content b ys
+        → (a ≡ b) × AreSame words xs ys
+    one_cover words file events text content is a b xs ys o p =
+        let same = one_follow event_action.ExplainCover text content a b o.report p.report o.reported p.reported in (
+          same.0,
+          explained_cover file events o.report o.notes p.notes is o.split (p.split ∙ ap (λ zs. zs ++ p.notes) (sym same.1)) o.comments p.comments,
+        )
+
+    one_event : (does : EventAction) (words : List Bytes) (file events text content : Bytes) → command_of words ≡ Some (follow does file events)
+        → (a b : Status) (xs ys : Bytes) → EventOutput does text content a xs → EventOutput does text content b ys → (a ≡ b) × AreSame words xs ys
+    one_event event_action.Simulate words file events text content is a b xs ys o p =
+        are_same words a b xs ys (one_follow event_action.Simulate text content a b xs ys o p)
+    one_event event_action.Cover words file events text content is a b xs ys o p =
+        are_same words a b xs ys (one_follow event_action.Cover text content a b xs ys o p)
+    one_event event_action.ExplainCover words file events text content is a b xs ys o p = one_cover words file events text content is a b xs ys o p
+
     pub one_output : OutputIsOne
     one_output words contents a b xs ys (no_command none e h) (no_command _ f k) = (e ∙ sym f, whole (h ∙ sym k))
     one_output words contents a b xs ys (no_command none e h) (acted does file is o) = absurd (cc (none, is))
@@ -123,13 +144,13 @@ module _ (faults : AtMostOneFirstFault) (lists : AtMostOneTokenList) (never : Ne
     one_output words contents a b xs ys (acted does file is o) (no_command none e h) = absurd (cc (none, is))
     one_output words contents a b xs ys (acted does file is o) (acted other file' at p) =
         let same = same_some (act other file') (act does file) (sym at ∙ is) in
-        one_action one does words file (contents file) is a b xs ys o (subst (λ (c : Command). OfCommand contents c b ys) same p)
+        one_action one gaps does words file (contents file) is a b xs ys o (subst (λ (c : Command). OfCommand contents c b ys) same p)
     one_output words contents a b xs ys (acted does file is o) (output.Output.followed does' file' events at p) = absurd (cc (is, at))
     one_output words contents a b xs ys (output.Output.followed does file events is o) (no_command none e h) = absurd (cc (none, is))
     one_output words contents a b xs ys (output.Output.followed how file events is o) (acted does file' at p) = absurd (cc (is, at))
     one_output words contents a b xs ys (output.Output.followed does file events is o) (output.Output.followed does' file' events' at p) =
         let same = same_some (follow does' file' events') (follow does file events) (sym at ∙ is) in
-        are_same words a b xs ys (one_follow does (contents file) (contents events) a b xs ys o (subst (λ (c : Command). OfCommand contents c b ys) same p))
+        one_event does words file events (contents file) (contents events) is a b xs ys o (subst (λ (c : Command). OfCommand contents c b ys) same p)
     one_output words contents a b xs ys (no_command none e h) (demonstrated n is f s) = absurd (cc (none, is))
     one_output words contents a b xs ys (acted does file is o) (demonstrated n at f s) = absurd (cc (is, at))
     one_output words contents a b xs ys (output.Output.followed does file events is o) (demonstrated n at f s) = absurd (cc (is, at))

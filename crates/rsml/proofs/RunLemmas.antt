@@ -15,12 +15,14 @@ use Rattle.answering.specs.declared.status.Status.TheVariants as status
 use Rattle.answering.proofs.AnswerLemmas.{Answers, complete, wrote, acted, of_told, of_fits, written_fits}
 use Rattle.checking.proofs.HeadlineLemmas.{certified_output, refused_output}
 use Rattle.following.specs.Followed.{IsFollowed}
-use Rattle.following.specs.Outputs.{FollowOutput, IsCertifiedText, status_of, texts_of}
+use Rattle.following.specs.Outputs.{EventOutput, FollowOutput, IsCertifiedText, Shows, status_of, texts_of}
 use Rattle.following.specs.Outputs as following
 use Rattle.following.specs.Steps.{HasFollowed}
 use Rattle.following.specs.declared.event_action.EventAction.{EventAction}
 use Rattle.following.specs.declared.event_action.EventAction.TheVariants as event_action
+use Rattle.following.proofs.NoteLemmas.{shown_as}
 use Rattle.following.proofs.FollowLemmas.{EventsUnread, followed, leaves_events, event_fault, never_usage_of}
+use Rattle.gapping.proofs.GapLemmas as gapping
 use Rattle.demonstrating.specs.Steps.{HasDemonstrated}
 use Rattle.demonstrating.specs.Summary.{IsSummary}
 use Rattle.demonstrating.proofs.DemoLemmas.{demonstrated, demonstrated_fits}
@@ -28,7 +30,7 @@ use Rattle.rsml.specs.Commands.{Command, act, follow, demo, version, command_of,
 use Rattle.rsml.specs.Commands as commands
 use Rattle.rsml.specs.Output.{ActionOutput, Output}
 use Rattle.rsml.specs.Output as output
-use Rattle.rsml.specs.Promises.{Meeting, Runs, Tells, SomeReadRefused, ReadFaultOutput, Certifies, Refuses, TellsOnlyRun, Traces, Covers, Demonstrates, Checks, IsOfOnlyRun, CountsRise, answers_of}
+use Rattle.rsml.specs.Promises.{Meeting, Runs, Tells, SomeReadRefused, ReadFaultOutput, Certifies, Refuses, TellsOnlyRun, Tabulates, Demonstrates, Checks, IsOfOnlyRun, CountsRise, answers_of}
 use Rattle.rsml.specs.Promises as promises
 use Rattle.rsml.specs.Steps.{HasObeyed}
 use Rattle.rsml.specs.Version.{version_text}
@@ -65,11 +67,11 @@ module _ (m : Meeting) (answer : Status) (c : Command) (is : command_of m.words 
 
   -- its promises, from what it answered, and what each of them is of its kind
   all_runs : AnswersOf m answer → LeftOver m (Names c) → Contains (answers_of c) answer → answer ≢ status.Usage
-      → Certifies m answer → Refuses m answer → Traces m answer → Covers m answer → Demonstrates m answer
+      → Certifies m answer → Refuses m answer → ((does : EventAction) → TellsOnlyRun does m answer) → Tabulates m answer → Demonstrates m answer
       → OfFollow (λ file events. file ≢ events → ((m.file events).reach_after ≡ (m.file events).reach) ⊎ IsFollowed (m.file file) (m.file events) answer) c
       → OfFollow (λ file events. answer ≡ status.EventFault → IsFollowed (m.file file) (m.file events) answer) c
       → Runs m answer
-  all_runs h left fits no_usage certifies refuses traces covers demonstrates unread fault = record {
+  all_runs h left fits no_usage certifies refuses tells tabulates demonstrates unread fault = record {
     answered = h.answered;
     usage = record { usage = λ none. absurd (cc (none, is)); only = λ e. absurd (no_usage e) };
     no_memory = h.no_memory;
@@ -79,8 +81,10 @@ module _ (m : Meeting) (answer : Status) (c : Command) (is : command_of m.words 
     complete = complete (Bytes → Bytes) (Tells m) (Output m.words) (SomeReadRefused m) (ReadFaultOutput m) m.sink answer h;
     certified = certifies;
     refused = refuses;
-    traced = traces;
-    covered = covers;
+    traced = tells event_action.Simulate;
+    covered = tells event_action.Cover;
+    cover_explained = tells event_action.ExplainCover;
+    gapped = tabulates;
     demonstrated = demonstrates;
     others = λ file n. left.others file (λ names. n c is names);
     unread_events = λ does file events e.
@@ -128,18 +132,24 @@ module _ (m : Meeting) (answer : Status) (does : Action) (file : Bytes) (is : co
       of_fits (ActionOutput does) (acts_texts does) (m.file file) m.sink answer (λ a. a ≢ status.Usage) action_usage
       (λ f. cc f) (λ f. cc f) (λ f. cc f) (λ f. cc f) h
 
-  -- the command's file is the one that `check` read
-  checked : (text : Bytes) (c : Checks m text) → (does ≡ action.Check) × ((m.file file).told ≡ Some text)
-  checked text c =
-      let same = same_some (act does file) (act action.Check c.file) (sym is ∙ c.command) in
-      (ap (action_in does) same, subst (λ (f : Bytes). (m.file f).told ≡ Some text) (sym (same_some file c.file (ap specification_file same))) c.told)
+  -- the command's file is the one that this action read
+  same_action : (one : Action) (read text : Bytes) → command_of m.words ≡ Some (act one read) → (m.file read).told ≡ Some text
+      → (does ≡ one) × ((m.file file).told ≡ Some text)
+  same_action one read text command told =
+      let same = same_some (act does file) (act one read) (sym is ∙ command) in
+      (ap (action_in does) same, subst (λ (f : Bytes). (m.file f).told ≡ Some text) (sym (same_some file read (ap specification_file same))) told)
+
+  output_of_action : (one : Action) (read text : Bytes) → command_of m.words ≡ Some (act one read) → (m.file read).told ≡ Some text
+      → answer ≢ status.NoMemory → answer ≢ status.ReadFault → answer ≢ status.WriteFault
+      → (bytes : Bytes) × ActionOutput one text answer bytes × Writes m.sink bytes
+  output_of_action one read text command told no_memory no_read no_write =
+      let is = same_action one read text command told in
+      let o = of_told (ActionOutput does) (acts_texts does) (m.file file) m.sink answer h no_memory no_read no_write text is.1 in
+      (o.0, subst (λ (a : Action). ActionOutput a text answer o.0) is.0 o.1, o.2)
 
   output_on : (text : Bytes) → Checks m text → answer ≢ status.NoMemory → answer ≢ status.ReadFault → answer ≢ status.WriteFault
       → (bytes : Bytes) × ActionOutput action.Check text answer bytes × Writes m.sink bytes
-  output_on text c no_memory no_read no_write =
-      let is = checked text c in
-      let o = of_told (ActionOutput does) (acts_texts does) (m.file file) m.sink answer h no_memory no_read no_write text is.1 in
-      (o.0, subst (λ (a : Action). ActionOutput a text answer o.0) is.0 o.1, o.2)
+  output_on text c = output_of_action action.Check c.file text c.command c.told
 
   certifies : Certifies m answer
   certifies e text c =
@@ -153,10 +163,20 @@ module _ (m : Meeting) (answer : Status) (does : Action) (file : Bytes) (is : co
       let r = refused_output text answer o.0 e o.1 in
       (r.0, o.0, r.1, r.2, o.2)
 
+  tabulates : Tabulates m answer
+  tabulates (inl e) most text c =
+      let o = output_of_action (action.Gaps most) c.file text c.command c.told (λ f. absurd (cc (e, f))) (λ f. absurd (cc (e, f))) (λ f. absurd (cc (e, f))) in
+      let r = gapping.done_output most text answer o.0 e o.1 in
+      (r.0, o.0, r.1, r.2, o.2)
+  tabulates (inr e) most text c =
+      let o = output_of_action (action.Gaps most) c.file text c.command c.told (λ f. absurd (cc (e, f))) (λ f. absurd (cc (e, f))) (λ f. absurd (cc (e, f))) in
+      let r = gapping.refused_output most text answer o.0 e o.1 in
+      (r.0, o.0, r.1, r.2, o.2)
+
   runs_action : Runs m answer
   runs_action =
       all_runs m answer (act does file) is acted_answers left acted_fits acted_usage certifies refuses
-      (λ e text content c. absurd (cc (is, c.command))) (λ e text content c. absurd (cc (is, c.command))) (λ e n c. absurd (cc (is, c))) tt tt
+      (λ action e text content c. absurd (cc (is, c.command))) tabulates (λ e n c. absurd (cc (is, c))) tt tt
 
 -- A command that follows an event file.
 
@@ -166,18 +186,38 @@ fault_not_done (broken_line n rule) e = cc e
 fault_not_done long_file e = cc e
 
 -- where it ends with Done, what it writes of the only run was written
-of_only_run : (does : EventAction) (s : Spec) (content : Bytes) (ended : SimEnd) (bytes text : Bytes) → status_of ended ≡ status.Done
-    → IsCertifiedText text s → events_file.Output (texts_of does) s program_limits content ended bytes → IsOfOnlyRun does s content bytes
-of_only_run does s content ended bytes text e c (done rs formed is_run _ is) =
+of_only_run : (does : EventAction) (s : Spec) (content : Bytes) (ended : SimEnd) (report text : Bytes) → status_of ended ≡ status.Done
+    → IsCertifiedText text s → events_file.Output (texts_of does) s program_limits content ended report
+    → (bytes : Bytes) → Shows does (λ b. b ≡ report) bytes → IsOfOnlyRun does s content bytes
+of_only_run does s content ended report text e c (done rs formed is_run _ is) bytes shown =
     let one = c.deterministic.one_run content formed in
-    record { well_formed = formed; run = rs; is_run = is_run; only = λ other r. one.only other r ∙ sym (one.only rs is_run); text = is }
-of_only_run does s content ended bytes text e c (faulty f rs _ _ is _) = absurd (fault_not_done f (ap status_of (sym is) ∙ e))
+    let whole = (texts_of does).whole s rs in
+    record {
+      well_formed = formed;
+      run = rs;
+      is_run = is_run;
+      only = λ other r. one.only other r ∙ sym (one.only rs is_run);
+      text = shown_as does (λ b. b ≡ report) (λ b. b ≡ whole) (λ b f. f ∙ is) bytes shown;
+    }
+of_only_run does s content ended report text e c (faulty f rs _ _ is _) bytes shown = absurd (fault_not_done f (ap status_of (sym is) ∙ e))
+
+-- what a report that ends with Done is of: whatever is shown of it is of the only run
+report_done : (does : EventAction) (text content : Bytes) (answer : Status) (report : Bytes) → answer ≡ status.Done
+    → FollowOutput does text content answer report
+    → (s : Spec) × IsCertifiedText text s × ((bytes : Bytes) → Shows does (λ b. b ≡ report) bytes → IsOfOnlyRun does s content bytes)
+report_done does text content answer report e (following.checked not_done _) = absurd (not_done e)
+report_done does text content answer report e (following.FollowOutput.followed s ended c o is) =
+    (s, c, of_only_run does s content ended report text (sym is ∙ e) c o)
 
 done_output : (does : EventAction) (text content : Bytes) (answer : Status) (bytes : Bytes) → answer ≡ status.Done
-    → FollowOutput does text content answer bytes → (s : Spec) × IsCertifiedText text s × IsOfOnlyRun does s content bytes
-done_output does text content answer bytes e (following.checked not_done _) = absurd (not_done e)
-done_output does text content answer bytes e (following.FollowOutput.followed s ended c o is) =
-    (s, c, of_only_run does s content ended bytes text (sym is ∙ e) c o)
+    → EventOutput does text content answer bytes → (s : Spec) × IsCertifiedText text s × IsOfOnlyRun does s content bytes
+done_output event_action.Simulate text content answer bytes e h =
+    let r = report_done event_action.Simulate text content answer bytes e h in (r.0, r.1, r.2 bytes refl)
+done_output event_action.Cover text content answer bytes e h =
+    let r = report_done event_action.Cover text content answer bytes e h in (r.0, r.1, r.2 bytes refl)
+done_output event_action.ExplainCover text content answer bytes e h =
+    let r = report_done event_action.ExplainCover text content answer h.report e h.reported in
+    (r.0, r.1, r.2 bytes (record { report = h.report; notes = h.notes; split = h.split; reported = refl; comments = h.comments }))
 
 abbrev events_of : Bytes → Command → Bytes
 events_of other (act does file) = other
@@ -214,10 +254,10 @@ module _ (m : Meeting) (answer : Status) (does : EventAction) (file events : Byt
 
   -- of a text and the contents of an event file that were told
   output_of : (text content : Bytes) → (m.file file).told ≡ Some text → (m.file events).told ≡ Some content → answer ≢ status.NoMemory
-      → answer ≢ status.ReadFault → answer ≢ status.WriteFault → (bytes : Bytes) × FollowOutput does text content answer bytes × Writes m.sink bytes
+      → answer ≢ status.ReadFault → answer ≢ status.WriteFault → (bytes : Bytes) × EventOutput does text content answer bytes × Writes m.sink bytes
   output_of text content told told_events no_memory no_read no_write =
       let all =
-      followed Bytes (λ c. (m.file events).told ≡ Some c) (λ c. FollowOutput does text c) (ReadRefused (m.file file) ⊎ ReadRefused (m.file events)) (λ c bytes. ⊤)
+      followed Bytes (λ c. (m.file events).told ≡ Some c) (λ c. EventOutput does text c) (ReadRefused (m.file file) ⊎ ReadRefused (m.file events)) (λ c bytes. ⊤)
       does m.sink answer file events m.file (λ c. text) (λ c. c) (λ c _. told) (λ c t. t) (λ c wanted bytes o. o) (λ r. inl r) (λ r. inr r) (λ c r. tt)
       (λ c bytes u. tt) h in
       all.answered no_memory no_read no_write content told_events
@@ -246,7 +286,7 @@ module _ (m : Meeting) (answer : Status) (does : EventAction) (file events : Byt
   runs_following =
       let no_usage = never_usage_of does file events m.file m.sink answer h in
       all_runs m answer (follow does file events) is followed_answers left (all_but_usage answer refl no_usage) no_usage
-      (λ e text c. absurd (cc (is, c.command))) (λ e text c. absurd (cc (is, c.command))) (tells event_action.Simulate) (tells event_action.Cover)
+      (λ e text c. absurd (cc (is, c.command))) (λ e text c. absurd (cc (is, c.command))) tells (λ e most text c. absurd (cc (is, c.command)))
       (λ e n c. absurd (cc (is, c))) (leaves_events does file events m.file m.sink answer h) (event_fault does file events m.file m.sink answer h)
 
 -- `demo`.
@@ -280,8 +320,8 @@ module _ (m : Meeting) (answer : Status) (n : ℕ) (is : command_of m.words ≡ 
       all_runs m answer (demo n) is demo_answers left
       (demonstrated_fits n m.sink answer (λ a. Contains (answers_of (demo n)) a) (0, lit< tt, refl) (2, lit< tt, refl) (1, lit< tt, refl) h)
       (demonstrated_fits n m.sink answer (λ a. a ≢ status.Usage) (λ f. cc f) (λ f. cc f) (λ f. cc f) h)
-      (λ e text c. absurd (cc (is, c.command))) (λ e text c. absurd (cc (is, c.command))) (λ e text content c. absurd (cc (is, c.command)))
-      (λ e text content c. absurd (cc (is, c.command))) demonstrates tt tt
+      (λ e text c. absurd (cc (is, c.command))) (λ e text c. absurd (cc (is, c.command))) (λ action e text content c. absurd (cc (is, c.command)))
+      (λ e most text c. absurd (cc (is, c.command))) demonstrates tt tt
 
 -- `version`.
 
@@ -294,8 +334,8 @@ module _ (m : Meeting) (answer : Status) (is : command_of m.words ≡ Some versi
       (λ f. absurd (cc f)) (λ f. absurd (cc f)) (λ contents _. output.versioned is refl refl)) left
       (written_fits (λ a. Contains (answers_of version) a) m.sink version_text status.Done answer w (0, lit< tt, refl) (1, lit< tt, refl))
       (written_fits (λ a. a ≢ status.Usage) m.sink version_text status.Done answer w (λ f. cc f) (λ f. cc f))
-      (λ e text c. absurd (cc (is, c.command))) (λ e text c. absurd (cc (is, c.command))) (λ e text content c. absurd (cc (is, c.command)))
-      (λ e text content c. absurd (cc (is, c.command))) (λ e n c. absurd (cc (is, c))) tt tt
+      (λ e text c. absurd (cc (is, c.command))) (λ e text c. absurd (cc (is, c.command))) (λ action e text content c. absurd (cc (is, c.command)))
+      (λ e most text c. absurd (cc (is, c.command))) (λ e n c. absurd (cc (is, c))) tt tt
 
 -- what `run` promises, from what the command that the words are leaves
 pub runs_command : (m : Meeting) (answer : Status) (c : Command) → command_of m.words ≡ Some c → HasObeyed c m.file m.sink answer
@@ -331,6 +371,8 @@ module _ (m : Meeting) (answer : Status) (none : command_of m.words ≡ None) (w
     refused = λ e text c. absurd (cc (none, c.command));
     traced = λ e text content c. absurd (cc (none, c.command));
     covered = λ e text content c. absurd (cc (none, c.command));
+    cover_explained = λ e text content c. absurd (cc (none, c.command));
+    gapped = λ e most text c. absurd (cc (none, c.command));
     demonstrated = λ e n c. absurd (cc (none, c));
     others = λ file _. left.others file (λ f. f);
     unread_events = λ does file events c. absurd (cc (none, c));

@@ -4,7 +4,7 @@ use Rattle.rsml_meaning.specs.EventLines.{Bytes}
 use Rattle.rsml_syntax.specs.text.Names.{same}
 use Rattle.following.specs.declared.event_action.EventAction.{EventAction}
 use Rattle.following.specs.declared.event_action.EventAction.TheVariants as event_action
-use Rattle.rsml.specs.Units.{units_of}
+use Rattle.rsml.specs.Counts.{count_of}
 use Rattle.rsml.specs.declared.command.Action.{Action}
 use Rattle.rsml.specs.declared.command.Action.TheVariants as action
 
@@ -28,6 +28,14 @@ event_action_of word = elim (same word (codes "simulate")) [
   | false ↦ elim (same word (codes "cover")) [ true ↦ Some event_action.Cover | false ↦ None ]
 ]
 
+-- the action of these two words on an event file
+abbrev pub explained_action_of : Bytes → Bytes → Option EventAction
+explained_action_of first word =
+    elim (same first (codes "explain")) [
+      | true ↦ elim (same word (codes "cover")) [ true ↦ Some event_action.ExplainCover | false ↦ None ]
+      | false ↦ None
+    ]
+
 -- What is asked for, by the names of files or the number of units:
 pub data Command : Type 0 where
   -- an action on a specification
@@ -47,17 +55,29 @@ with_file file action = act action file
 abbrev pub with_files : Bytes → Bytes → EventAction → Command
 with_files file events action = follow action file events
 
+-- at most so many columns of each group of this file
+abbrev pub with_columns : Bytes → ℕ → Command
+with_columns file most = act (action.Gaps most) file
+
 -- the command that the words are, if they are one
 abbrev pub command_of : List Bytes → Option Command
 command_of (word ∷ []) = if same word (codes "version") then Some version else None
-command_of (word ∷ file ∷ []) = if same word (codes "demo") then option_map demo (units_of file) else option_map (with_file file) (action_of word)
-command_of (word ∷ file ∷ events ∷ []) = option_map (with_files file events) (event_action_of word)
+command_of (word ∷ file ∷ []) = if same word (codes "demo") then option_map demo (count_of 64 file) else option_map (with_file file) (action_of word)
+command_of (word ∷ file ∷ events ∷ []) =
+    if same word (codes "gaps") then option_map (with_columns file) (count_of 99 events) else option_map (with_files file events) (event_action_of word)
+command_of (first ∷ word ∷ file ∷ events ∷ []) = option_map (with_files file events) (explained_action_of first word)
 command_of _ = None
 
--- the units are from 1 to 64
-abbrev pub AreUnits : Command → Type 0
-AreUnits (demo n) = (1 ≤ n) × (n ≤ 64)
-AreUnits _ = ⊤
+-- of each group some columns are asked for
+abbrev pub IsCounted : Action → Type 0
+IsCounted (action.Gaps most) = (1 ≤ most) × (most ≤ 99)
+IsCounted _ = ⊤
+
+-- the units are from 1 to 64, and the columns from 1 to 99
+abbrev pub AreCounted : Command → Type 0
+AreCounted (act action _) = IsCounted action
+AreCounted (demo n) = (1 ≤ n) × (n ≤ 64)
+AreCounted _ = ⊤
 
 -- the file of the command's specification, if it reads one
 abbrev pub specification_file : Command → Option Bytes

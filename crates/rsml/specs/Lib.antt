@@ -1,8 +1,8 @@
 pub mod Asked
 pub mod Commands
+pub mod Counts
 pub mod Laws
 pub mod Output
 pub mod Promises
 pub mod Steps
-pub mod Units
 pub mod Version

@@ -9,8 +9,9 @@ use Rattle.answering.specs.declared.status.Status.{Status}
 use Rattle.answering.specs.declared.status.Status.TheVariants as status
 use Rattle.checking.specs.Outputs.{CheckOutput, FormatOutput, MigrateOutput}
 use Rattle.explaining.specs.Outputs.{ExplainOutput}
-use Rattle.following.specs.Outputs.{FollowOutput, IsCertifiedText, texts_of}
+use Rattle.following.specs.Outputs.{EventOutput, IsCertifiedText, texts_of}
 use Rattle.following.specs.declared.event_action.EventAction.{EventAction}
+use Rattle.gapping.specs.Outputs.{GapsOutput}
 use Rattle.demonstrating.specs.Summary.{IsSummary}
 use Rattle.rsml.specs.Commands.{act, follow, demo, version, command_of}
 use Rattle.rsml.specs.Version.{version_text}
@@ -23,6 +24,7 @@ ActionOutput action.Check = CheckOutput
 ActionOutput action.Explain = ExplainOutput
 ActionOutput action.Format = FormatOutput
 ActionOutput action.Migrate = MigrateOutput
+ActionOutput (action.Gaps most) = GapsOutput most
 
 -- What the words come to, where the files hold these contents.
 pub data Output (words : List Bytes) (contents : Bytes → Bytes) (answer : Status) (bytes : Bytes) : Type 0 where
@@ -30,7 +32,7 @@ pub data Output (words : List Bytes) (contents : Bytes → Bytes) (answer : Stat
   acted : (action : Action) (file : Bytes) → command_of words ≡ Some (act action file)
       → ActionOutput action (contents file) answer bytes → Output words contents answer bytes
   followed : (does : EventAction) (file events : Bytes) → command_of words ≡ Some (follow does file events)
-      → FollowOutput does (contents file) (contents events) answer bytes → Output words contents answer bytes
+      → EventOutput does (contents file) (contents events) answer bytes → Output words contents answer bytes
   demonstrated : (n : ℕ) → command_of words ≡ Some (demo n) → answer ≡ status.Done → IsSummary n bytes → Output words contents answer bytes
   versioned : command_of words ≡ Some version → answer ≡ status.Done → bytes ≡ version_text → Output words contents answer bytes
 

@@ -11,9 +11,10 @@ use Rattle.answering.specs.Uses.{FileUse, SinkUse, ReadRefused, WriteRefused, Wr
 use Rattle.answering.specs.declared.status.Status.{Status}
 use Rattle.answering.specs.declared.status.Status.TheVariants as status
 use Rattle.following.specs.Followed.{IsFollowed}
-use Rattle.following.specs.Outputs.{IsCertifiedText, texts_of}
+use Rattle.following.specs.Outputs.{IsCertifiedText, Shows, texts_of}
 use Rattle.following.specs.declared.event_action.EventAction.{EventAction}
 use Rattle.following.specs.declared.event_action.EventAction.TheVariants as event_action
+use Rattle.gapping.specs.Outputs.{TellsGaps}
 use Rattle.demonstrating.specs.Summary.{IsSummary}
 use Rattle.rsml.specs.Commands.{Command, act, follow, demo, version, command_of, specification_file, Names}
 use Rattle.rsml.specs.Output.{Output, ReadOutput}
@@ -103,13 +104,13 @@ pub record Follows (m : Meeting) (does : EventAction) (text content : Bytes) : T
   pub told : (m.file file).told ≡ Some text
   pub told_events : (m.file events).told ≡ Some content
 
--- Of a certified specification the event file is well-formed, and the bytes are what an action writes of its only run.
+-- Of a certified specification the event file is well-formed, and the bytes are what an action writes of its only run, with its comment lines.
 pub record IsOfOnlyRun (does : EventAction) (s : Spec) (content bytes : Bytes) : Type 0 where
   pub well_formed : IsWellFormed s program_limits content
   pub run : List Reaction
   pub is_run : IsRun s (lines_of content) run
   pub only : (other : List Reaction) → IsRun s (lines_of content) other → other ≡ run
-  pub text : bytes ≡ (texts_of does).whole s run
+  pub text : Shows does (λ report. report ≡ (texts_of does).whole s run) bytes
 
 -- Where a command that follows an event file ends with Done, the text reads as a specification that is certified, and what it writes of the
 -- only run was written.
@@ -125,6 +126,22 @@ Traces = TellsOnlyRun event_action.Simulate
 abbrev pub Covers : Meeting → Status → Type 0
 Covers = TellsOnlyRun event_action.Cover
 
+-- and `explain cover` the same, with comment lines behind it
+abbrev pub ExplainsCover : Meeting → Status → Type 0
+ExplainsCover = TellsOnlyRun event_action.ExplainCover
+
+-- The command is `gaps` with at most so many columns for each group, and its file told this text.
+pub record AsksGaps (m : Meeting) (most : ℕ) (text : Bytes) : Type 0 where
+  pub file : Bytes
+  pub command : command_of m.words ≡ Some (act (action.Gaps most) file)
+  pub told : (m.file file).told ≡ Some text
+
+-- Where `gaps` ends with Done or with Refused, the text reads as a specification, and of each of its groups was written what is right: where
+-- it fails, columns of its failing worlds alone, of which no two share a world, and that there are more exactly where one is in none.
+abbrev pub Tabulates : Meeting → Status → Type 0
+Tabulates m answer = ((answer ≡ status.Done) ⊎ (answer ≡ status.Refused)) → (most : ℕ) (text : Bytes) → AsksGaps m most text
+    → (s : Spec) × (bytes : Bytes) × IsTextOf text s × TellsGaps s most answer bytes × Writes m.sink bytes
+
 -- Where `demo` ends with Done, the summary of its units was written.
 abbrev pub Demonstrates : Meeting → Status → Type 0
 Demonstrates m answer = answer ≡ status.Done → (n : ℕ) → command_of m.words ≡ Some (demo n) → (bytes : Bytes) × IsSummary n bytes × Writes m.sink bytes
@@ -138,7 +155,7 @@ abbrev pub LeavesEvents : Meeting → Status → Type 0
 LeavesEvents m answer = (does : EventAction) (file events : Bytes) → command_of m.words ≡ Some (follow does file events) → file ≢ events
     → ((m.file events).reach_after ≡ (m.file events).reach) ⊎ IsFollowed (m.file file) (m.file events) answer
 
--- the statuses with which `check` and `explain` can end
+-- the statuses with which `check`, `explain` and `gaps` can end
 abbrev pub judged_answers : List Status
 judged_answers = status.Done ∷ status.Refused ∷ status.SpecFault ∷ status.TooLong ∷ status.ReadFault ∷ status.WriteFault ∷ status.NoMemory ∷ []
 
@@ -152,6 +169,7 @@ answers_of (act action.Check _) = judged_answers
 answers_of (act action.Explain _) = judged_answers
 answers_of (act action.Format _) = layout_answers
 answers_of (act action.Migrate _) = layout_answers
+answers_of (act (action.Gaps _) _) = judged_answers
 answers_of (follow _ _ _) = status.EventFault ∷ judged_answers
 answers_of (demo _) = status.Done ∷ status.WriteFault ∷ status.NoMemory ∷ []
 answers_of version = status.Done ∷ status.WriteFault ∷ []
@@ -168,7 +186,7 @@ pub record CountsRise (m : Meeting) : Type 0 where
   pub reads : (file : Bytes) → (m.file file).refusals ≤ (m.file file).refusals_after
   pub writes : m.sink.refusals ≤ m.sink.refusals_after
 
--- All that `run` promises; the headline is in the fields `certified`, `refused`, `traced`, `covered` and `demonstrated`.
+-- All that `run` promises; the headline is in the fields `certified`, `refused`, `traced`, `covered`, `cover_explained`, `gapped` and `demonstrated`.
 pub record Runs (m : Meeting) (answer : Status) : Type 0 where
   pub answered : IsAnswered m answer
   pub usage : IsUsage m answer
@@ -181,6 +199,8 @@ pub record Runs (m : Meeting) (answer : Status) : Type 0 where
   pub refused : Refuses m answer
   pub traced : Traces m answer
   pub covered : Covers m answer
+  pub cover_explained : ExplainsCover m answer
+  pub gapped : Tabulates m answer
   pub demonstrated : Demonstrates m answer
   pub others : LeavesOthers m
   pub unread_events : LeavesEvents m answer

@@ -1,17 +1,20 @@
 ghost use Rattle.std.specs.Prelude.{◌≡◌, ◌≢◌, ◌≤◌, IfOk, List, ℕ};
 ghost use Rattle.answering.specs.Outcomes.{CameTo, answer_of, bytes_of};
+ghost use Rattle.rsml.specs.Commands.{IsCounted};
 ghost use Rattle.rsml.specs.Output.{ActionOutput};
 
 use crate::command::Action;
 use answering::{GREATEST_FILE, Outcome, unread};
 use checking::{check, format, migrate};
 use explaining::explain;
+use gapping::gaps;
 use rsml_io::{Files, read_all};
 use rsml_syntax::NoMemory;
 use std::alloc::Global;
 
 /// What an action comes to on the text of a file with this name.
 fn outcome_of(alloc: Global, action: Action, file: &[u8], text: &[u8]) -> Result<Outcome, NoMemory>
+    requires { IsCounted action }
     ensures { IfOk result (λ o. ActionOutput action text.now (answer_of o) (bytes_of o)) }
 {
     match action {
@@ -19,6 +22,7 @@ fn outcome_of(alloc: Global, action: Action, file: &[u8], text: &[u8]) -> Result
         Action::Explain => explain(alloc, file, text),
         Action::Format => format(alloc, text),
         Action::Migrate => migrate(alloc, text),
+        Action::Gaps(most) => gaps(alloc, text, most),
     }
 }
 
@@ -29,6 +33,7 @@ pub fn come_to<F: Files>(
     file: &str,
     files: &mut F,
 ) -> Result<Outcome, NoMemory>
+    requires { IsCounted action }
     ensures came { IfOk result (CameTo (ActionOutput action) (record {
       told = F.contents files.old file.now;
       reach = F.reach files.old file.now;

@@ -1,8 +1,8 @@
 ghost use Rattle.std.specs.Prelude.{◌≡◌, map, option_map, string_bytes};
 ghost use Rattle.rsml.specs.Asked.{asked};
-ghost use Rattle.rsml.specs.Commands.{action_of, command_of, event_action_of};
+ghost use Rattle.rsml.specs.Commands.{action_of, command_of, event_action_of, explained_action_of};
 
-use crate::units::units_in;
+use crate::counts::count_in;
 use following::EventAction;
 
 /// What a command does with a specification.
@@ -16,6 +16,8 @@ pub enum Action {
     Format,
     /// Reads it by the first edition of the notation, renames its name `previous`, and writes the layout.
     Migrate,
+    /// Writes for each group that is not sound at most so many columns, from 1 to 99, of the worlds in which it fails.
+    Gaps(u32),
 }
 
 /// A command, with the names of its files, or the number of units.
@@ -72,6 +74,18 @@ fn event_action_called(word: &str) -> Option<EventAction>
     None
 }
 
+/// The action of two words on an event file.
+fn explained_action_called(first: &str, word: &str) -> Option<EventAction>
+    ensures { result ≡ explained_action_of first.now word.now }
+{
+    if first == "explain" {
+        if word == "cover" {
+            return Some(EventAction::ExplainCover);
+        }
+    }
+    None
+}
+
 /// The command that the words are, if they are one.
 pub fn command_in(words: &[String]) -> Option<Command<'_>>
     ensures { option_map asked result ≡ command_of (map (λ word. string_bytes word) words.now) }
@@ -85,7 +99,7 @@ pub fn command_in(words: &[String]) -> Option<Command<'_>>
         }
         [word, file] => {
             if word.as_str() == "demo" {
-                let units = units_in(file.as_str().as_bytes())?;
+                let units = count_in(file.as_str().as_bytes(), 64)?;
                 return Some(Command::Demo { units });
             }
             let action = action_called(word.as_str())?;
@@ -93,7 +107,23 @@ pub fn command_in(words: &[String]) -> Option<Command<'_>>
             Some(Command::Act { action, file })
         }
         [word, file, events] => {
+            if word.as_str() == "gaps" {
+                let most = count_in(events.as_str().as_bytes(), 99)?;
+                let action = Action::Gaps(most);
+                let file = file.as_str();
+                return Some(Command::Act { action, file });
+            }
             let action = event_action_called(word.as_str())?;
+            let file = file.as_str();
+            let events = events.as_str();
+            Some(Command::Follow {
+                action,
+                file,
+                events,
+            })
+        }
+        [first, word, file, events] => {
+            let action = explained_action_called(first.as_str(), word.as_str())?;
             let file = file.as_str();
             let events = events.as_str();
             Some(Command::Follow {

@@ -6,6 +6,7 @@ use rsml_meaning::{
     last_lines_tell_the_verdict, rules_give_scopes, well_formed_files_have_no_fault,
 };
 use rsml_parser::tokens_have_one_answer;
+use world_columns::column_laws;
 
 /// What a command answers and writes is one thing, by its words and what its files hold.
 pub fn an_output_is_one()
@@ -21,4 +22,5 @@ pub fn an_output_is_one()
     rules_give_scopes();
     event_files_have_one_run();
     last_lines_tell_the_verdict();
+    column_laws();
 }

@@ -3,10 +3,10 @@
 
 mod acting;
 mod command;
+mod counts;
 mod laws;
 mod memory;
 mod running;
-mod units;
 mod version;
 
 pub use answering::Status;

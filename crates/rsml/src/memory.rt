@@ -4,13 +4,30 @@ ghost use Rattle.source_notes.specs.Comments.{AreComments};
 use crate::command::{Action, Command, command_in};
 use answering::GREATEST_FILE;
 use explaining::memory_notes;
+use following::EventAction;
 use rsml_io::{Files, read_all};
 use rsml_syntax::NoMemory;
 use source_notes::Notes;
 use std::alloc::Global;
 
-/// What a person is told where a command ended with out of memory: of `explain`, comment lines on the first group for which memory is
-/// refused; of another command, or where that is not known, nothing. It takes the time of `check` once more.
+/// The specification that a command explains.
+fn explained_file(command: Command<'_>) -> Option<&str> {
+    match command {
+        Command::Act {
+            action: Action::Explain,
+            file,
+        } => Some(file),
+        Command::Follow {
+            action: EventAction::ExplainCover,
+            file,
+            ..
+        } => Some(file),
+        _ => None,
+    }
+}
+
+/// What a person is told where a command ended with out of memory: of `explain` and `explain cover`, comment lines on the first group for
+/// which memory is refused; of another command, or where that is not known, nothing. It takes the time of `check` once more.
 pub fn memory_lines<F: Files>(
     alloc: Global,
     words: &[String],
@@ -19,12 +36,8 @@ pub fn memory_lines<F: Files>(
     ensures comments { IfOk result (λ v. AreComments v.items) }
     ensures contents { (file : List ℕ) → F.contents files.new file ≡ F.contents files.old file }
 {
-    if let Some(
-        Command::Act {
-            action: Action::Explain,
-            file,
-        },
-    ) = command_in(words)
+    if let Some(command) = command_in(words)
+        && let Some(file) = explained_file(command)
         && let Ok(text) = read_all(alloc, files, file, GREATEST_FILE)
     {
         return memory_notes(alloc, file.as_bytes(), text.as_slice());

@@ -1,6 +1,6 @@
 ghost use Rattle.std.specs.Prelude.{◌≡◌, ◌≤◌, map, string_bytes, List, ℕ};
 ghost use Rattle.rsml.specs.Asked.{asked};
-ghost use Rattle.rsml.specs.Commands.{AreUnits, Names};
+ghost use Rattle.rsml.specs.Commands.{AreCounted, Names};
 ghost use Rattle.rsml.specs.Promises.{Runs};
 ghost use Rattle.rsml.specs.Steps as steps;
 
@@ -20,7 +20,7 @@ fn obey<F: Files, K: Sink>(
     files: &mut F,
     sink: &mut K,
 ) -> Status
-    requires { AreUnits (asked command) }
+    requires { AreCounted (asked command) }
     ensures obeyed { steps.HasObeyed (asked command.entry) (λ name. record {
       told = F.contents files.old name;
       reach = F.reach files.old name;

@@ -10,3 +10,6 @@ returns-in-Ok-new-clause-run g c =
 
 pub returns-in-Ok-cover-clause-run : goal.returns-in-Ok-cover-clause-run
 returns-in-Ok-cover-clause-run g c = rw c.in-Cover.is (steps.HasRun.run _ c.status_of-in-Ok-cover.ensures c.in-Ok-cover.ensures.follows)
+
+pub returns-clause-run : goal.returns-clause-run
+returns-clause-run g c = rw c.in-ExplainCover.is c.explain_cover.ensures.run

@@ -3,9 +3,9 @@ use Rattle.following.proofs.StartLemmas.{starts_on, starts_unread}
 use Rattle.following.proofs.starting.start_in.Goals as goal
 
 pub returns-in-Ok-clause-starts : goal.returns-in-Ok-clause-starts
-returns-in-Ok-clause-starts g c = starts_on _ c.in-Ok.text.items c.as_slice.result.now c.start_on.result c.in-Ok.ensures.whole c.as_slice.ensures.value c.start_on.ensures
+returns-in-Ok-clause-starts g c = starts_on c.args.action _ c.in-Ok.text.items c.start_on.result c.in-Ok.ensures.whole c.start_on.ensures
 
 pub returns-in-Err-clause-starts : goal.returns-in-Err-clause-starts
 returns-in-Err-clause-starts g c =
-    starts_unread _ c.in-Err.error c.unread.result c.unread.ensures (λ e. c.read_all.ensures.fault (c.in-Err.is ∙ ap Err e))
+    starts_unread c.args.action _ c.in-Err.error c.unread.result c.unread.ensures (λ e. c.read_all.ensures.fault (c.in-Err.is ∙ ap Err e))
     (λ e. c.read_all.ensures.too_long (c.in-Err.is ∙ ap Err e))

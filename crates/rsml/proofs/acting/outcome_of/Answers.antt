@@ -1,3 +1,5 @@
+use Rattle.std.proofs.Common.{subst}
+use Rattle.rsml.specs.Commands.{IsCounted}
 use Rattle.rsml.proofs.acting.outcome_of.Goals as goal
 
 pub returns-in-Check : goal.returns-in-Check
@@ -11,3 +13,9 @@ returns-in-Format c = rw c.in-Format.is c.format.ensures
 
 pub returns-in-Migrate : goal.returns-in-Migrate
 returns-in-Migrate c = rw c.in-Migrate.is c.migrate.ensures
+
+pub gaps-requires : goal.gaps-requires
+gaps-requires c = (subst IsCounted c.in-Gaps.is c.requires).0
+
+pub returns-in-Gaps : goal.returns-in-Gaps
+returns-in-Gaps c = rw c.in-Gaps.is c.gaps.ensures

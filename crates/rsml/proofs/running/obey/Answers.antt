@@ -1,9 +1,12 @@
 use Rattle.std.proofs.Common.{ap, subst}
 use Rattle.rsml.specs.Asked.{asked}
-use Rattle.rsml.specs.Commands.{AreUnits, specification_file}
+use Rattle.rsml.specs.Commands.{AreCounted, specification_file}
 use Rattle.rsml.specs.declared.command.Command.{Command as Given}
 use Rattle.rsml.proofs.ActionLemmas.{action_written, names_specification, names_events}
 use Rattle.rsml.proofs.running.obey.Goals as goal
+
+pub come_to-requires : goal.come_to-requires
+come_to-requires g c = subst (λ (k : Given). AreCounted (asked k)) c.in-Act.is c.requires
 
 pub answer-requires : goal.answer-requires
 answer-requires g c = action_written c.in-Act.action _ c.come_to.result c.come_to.ensures.came
@@ -18,10 +21,10 @@ pub returns-in-Demo-clause-obeyed : goal.returns-in-Demo-clause-obeyed
 returns-in-Demo-clause-obeyed g c = rw c.in-Demo.is c.demo.ensures.demonstrated
 
 pub demo-requires-clause-some : goal.demo-requires-clause-some
-demo-requires-clause-some g c = (subst (λ (k : Given). AreUnits (asked k)) c.in-Demo.is c.requires).0
+demo-requires-clause-some g c = (subst (λ (k : Given). AreCounted (asked k)) c.in-Demo.is c.requires).0
 
 pub demo-requires-clause-few : goal.demo-requires-clause-few
-demo-requires-clause-few g c = (subst (λ (k : Given). AreUnits (asked k)) c.in-Demo.is c.requires).1
+demo-requires-clause-few g c = (subst (λ (k : Given). AreCounted (asked k)) c.in-Demo.is c.requires).1
 
 pub returns-in-Version-clause-obeyed : goal.returns-in-Version-clause-obeyed
 returns-in-Version-clause-obeyed g c = rw c.in-Version.is c.finish.ensures.written

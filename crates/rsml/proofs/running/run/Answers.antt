@@ -2,7 +2,7 @@ use Rattle.std.proofs.Common.{map, refl, rules, arith}
 use Rattle.std.specs.Prelude.{string_bytes}
 use Rattle.rsml.specs.Asked.{asked}
 use Rattle.rsml.proofs.RunLemmas.{runs_command, runs_usage}
-use Rattle.rsml.proofs.UnitLemmas.{are_units}
+use Rattle.rsml.proofs.CountLemmas.{are_counted}
 use Rattle.rsml.proofs.running.run.Goals as goal
 
 pub returns-in-Some-clause-runs : goal.returns-in-Some-clause-runs
@@ -16,4 +16,4 @@ returns-in-None-clause-runs g c =
     (record { others = λ file n. refl; counts = record { reads = λ file. omega arith; writes = c.finish.ensures.count } })
 
 pub obey-requires : goal.obey-requires
-obey-requires g c = are_units (map (λ word. string_bytes word) c.args.words.now) (asked c.in-Some.command) (search rules)
+obey-requires g c = are_counted (map (λ word. string_bytes word) c.args.words.now) (asked c.in-Some.command) (search rules)

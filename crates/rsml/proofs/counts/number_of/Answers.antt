@@ -1,13 +1,13 @@
 use Rattle.std.proofs.Common.{◌≡◌, ℕ, ◌+◌, ◌*◌, ◌≤◌, false, length, sym, ap, ◌∙◌, arith}
 use Rattle.std.specs.Prelude.{◌==◌}
-use Rattle.rsml.specs.Units.{most}
-use Rattle.rsml.proofs.UnitLemmas.{digit_turn, digits_are, digits_end}
-use Rattle.rsml.proofs.units.number_of.Goals as goal
+use Rattle.rsml.specs.Counts.{most}
+use Rattle.rsml.proofs.CountLemmas.{digit_turn, digits_are, digits_end}
+use Rattle.rsml.proofs.counts.number_of.Goals as goal
 
 pub loop-digit-preserved : goal.loop-digit-preserved
 loop-digit-preserved c = record {
   digits = digit_turn c.args.word.now c.loop-digit.digit-index c.loop-digit.number _ _ (omega arith)
-      (sym c.is_ascii_digit.ensures.value ∙ c.if-not-is_ascii_digit.false) (c.at_most_65-number.ensures ∙ ap (λ (d : ℕ). most (c.loop-digit.number * 10 + d)) c.from.ensures) c.loop-digit.invariant.digits;
+      (sym c.is_ascii_digit.ensures.value ∙ c.if-not-is_ascii_digit.false) (c.at_most_100-number.ensures ∙ ap (λ (d : ℕ). most (c.loop-digit.number * 10 + d)) c.from.ensures) c.loop-digit.invariant.digits;
   small = omega arith;
 }
 

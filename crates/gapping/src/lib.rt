@@ -1,0 +1,6 @@
+//! What `gaps` comes to on a text.
+#![tactic(auto)]
+
+mod gapping;
+
+pub use gapping::gaps;
