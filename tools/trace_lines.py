@@ -181,15 +181,18 @@ def cases_in(folder):
     for file in sorted((TESTS / folder).glob("*.cases")):
         for case in cases_of(str(file))[1]:
             if case.status != 2:
-                texts = [text_of(case.files[it], str(file.parent)) if it in case.files else None for it in case.words[1:]]
+                names = case.words[2:] if case.words[0] == "explain" else case.words[1:]
+                texts = [text_of(case.files[it], str(file.parent)) if it in case.files else None for it in names]
                 yield file.stem, case, texts[0].decode(), texts[1]
 
 
 def stored(command, of_events):
-    """Each answer of the case files, with its place and what is worked out: reads of an event file that is not there are refused."""
+    """Each answer of the case files, of `explain` without its comment lines, with its place and what is worked out: reads of an event file
+    that is not there are refused."""
     for _, case, text, events in cases_in(command):
         read = 0 if events is None else None
-        yield case.place, (case.answer.decode(), case.status), simulation(text, events or b"", read, of_events)
+        lines = [line for line in case.answer.decode().splitlines(True) if case.words[0] != "explain" or not line.startswith("# ")]
+        yield case.place, ("".join(lines), case.status), simulation(text, events or b"", read, of_events)
 
 
 def at_random(command, of_events, count, program):
