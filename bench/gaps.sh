@@ -1,0 +1,79 @@
+#!/usr/bin/env bash
+# Columns of worlds in which groups fail: bench/gaps.sh [TURNS [NAME..]]
+# A line for each specification that is named here, or for each NAME, and each N of 1, 5 and 99: how many groups are not sound, how many
+# columns `gaps` tells, its milliseconds (the least of TURNS (3) runs) and its greatest resident memory; those of `check`, and the ratio;
+# those of z3, which is asked for the same columns (bench/gaps.py), and the ratio. Where z3 is not installed there are dashes. A run that
+# takes more than LIMIT (60) seconds, or more than MEMORY (8) GB, is told as `time` or `memory`.
+# The status is 1 where the columns of z3 are others. PROGRAM=FILE takes a program that is built already.
+set -eu
+cd "$(dirname "$0")/.."
+turns=${1:-3}
+shift $(($# > 0 ? 1 : 0))
+limit=${LIMIT:-60}
+most=$((${MEMORY:-8} * 1000000))
+work=$(mktemp -d)
+trap 'rm -rf "$work"' EXIT
+source bench/stages.sh
+source bench/texts.sh
+
+# The names of the specifications, and how each is written.
+names=()
+declare -A written_by
+text() { names+=("$1"); written_by[$1]="${*:2}"; }
+for example in examples/*/mistaken.rsml; do
+  text "$(basename "$(dirname "$example")")" cat "$example"
+done
+text intruders_mistaken cat examples/intruders_mistaken.rsml
+for size in 8 12 20 30; do text "hub_${size}_mistaken" hub "$size" mistaken; done
+for kind in 1 2 3 4; do text "rev_${kind}_mistaken" "rev_$kind" 30 mistaken; done
+text pairs_4_mistaken pairs 4 mistaken
+[ $# -eq 0 ] || names=("$@")
+
+take_program
+with_peer=no
+! command -v z3 > "$work/found" || with_peer=yes
+failed=0
+
+# limited COMMAND..: the least milliseconds of `turns` runs within the limits, or what stopped it. What it writes goes to $work/written.
+limited() {
+  local status=0 start least=
+  for _ in $(seq "$turns"); do
+    start=$(date +%s%N)
+    (ulimit -v "$most"; exec timeout "$limit" /usr/bin/time -q -o "$work/memory" -f %M "$@") > "$work/written" 2> "$work/error" || status=$?
+    case $status in
+      0 | 1) start=$(($(date +%s%N) - start)) ;;
+      124) echo time; return ;;
+      *) echo memory; return ;;
+    esac
+    [ -n "$least" ] && [ "$start" -ge "$least" ] || least=$start
+  done
+  awk -v t="$least" 'BEGIN { printf "%.1f", t / 1e6 }'
+}
+
+ratio() { awk -v one="$1" -v other="$2" 'BEGIN { if (one + 0 > 0 && other + 0 > 0) printf "%.2f", one / other; else printf "-" }'; }
+
+printf '%-24s %3s %6s %7s %10s %5s %10s %7s %10s %7s\n' specification N groups columns gaps MB check ratio z3 ratio
+for name in "${names[@]}"; do
+  [ -n "${written_by[$name]:-}" ] || { echo "$name: no such text"; exit 1; }
+  ${written_by[$name]} > "$work/$name"
+  check=$(limited "$program" check "$work/$name")
+  for columns in 1 5 99; do
+    ours=$(limited "$program" gaps "$work/$name" "$columns")
+    memory=$(tail -n 1 "$work/memory" | awk '{ printf "%.0f", $1 / 1024 }')
+    groups=$(awk '$1 == "gaps" { print $2 }' "$work/written")
+    told=$(grep -c '^  column ' "$work/written" || true)
+    peer=-
+    if [ "$with_peer" = yes ] && [ -n "$groups" ]; then
+      status=0
+      peer=$(timeout "$limit" bench/gaps.py "$work/$name" "$columns" "$work/written") || status=$?
+      case $status in
+        0) ;;
+        124) peer=time ;;
+        *) echo "$name, $columns: other columns"; failed=1 ;;
+      esac
+    fi
+    printf '%-24s %3s %6s %7s %10s %5s %10s %7s %10s %7s\n' "$name" "$columns" "${groups:--}" "$told" "$ours" "$memory" "$check" \
+      "$(ratio "$ours" "$check")" "$peer" "$(ratio "$ours" "$peer")"
+  done
+done
+exit "$failed"
