@@ -21,7 +21,8 @@ use Rattle.rsml_meaning.specs.Scoped.{WellScoped}
 use Rattle.rsml_meaning.proofs.rules.Scoped.{rules_give_scopes}
 use Rattle.rsml_meaning.specs.MicroSteps.{Result, IsResult}
 use Rattle.rsml_meaning.proofs.MicroSteps.{rounds_are_determinate}
-use Rattle.claims.specs.Claims.{Claim, all_true}
+use Rattle.claim_syntax.specs.declared.claim.Claim.{Claim}
+use Rattle.claims.specs.Claims.{all_true}
 use Rattle.claims.specs.Inductive.{Moment, AreInductive}
 use Rattle.claims.specs.Breaks.{IsBreak}
 use Rattle.claims.specs.Throughout.{run_worlds, AlwaysTrue}

@@ -20,7 +20,9 @@ use Rattle.rsml_meaning.specs.Instances.{globals_of, components}
 use Rattle.rsml_meaning.specs.Active.{leads_on, active}
 use Rattle.rsml_meaning.specs.Truth.{View, view, bare, learn, within, quantified, instance, simple, phrase, row_truth}
 use Rattle.rsml_meaning.proofs.Sources.{view_active}
-use Rattle.claims.specs.Claims.{Claim, IsOfStates, asks_a_state, is_true, all_true}
+use Rattle.claim_syntax.specs.declared.claim.Claim.{Claim}
+use Rattle.claim_syntax.specs.OfStates.{IsOfStates, asks_a_state}
+use Rattle.claims.specs.Claims.{is_true, all_true}
 
 learn_keeps : (d : Decl) (v : View) → (learn v d).names ≡ v.names
 learn_keeps (decl.Macro x size rows) v = refl

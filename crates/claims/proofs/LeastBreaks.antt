@@ -16,7 +16,7 @@ use Rattle.rsml_meaning.proofs.Order.{worlds_are_ordered, worlds_are_apart, list
 use Rattle.rsml_meaning.proofs.OneReport.{place_apart}
 use Rattle.rsml_meaning.specs.Scoped.{WellScoped, IsEvent}
 use Rattle.rsml_meaning.proofs.Lists.{each_one, any_one, any_some}
-use Rattle.claims.specs.Claims.{Claim}
+use Rattle.claim_syntax.specs.declared.claim.Claim.{Claim}
 use Rattle.claims.specs.Inductive.{Moment}
 use Rattle.claims.specs.Breaks.{IsBreak, presence, moment_rank, moment_cmp}
 use Rattle.claims.specs.Laws.{MomentsAreOrdered, LeastBreaksAreOne}

@@ -9,7 +9,8 @@ use Rattle.rsml_meaning.specs.Scoped.{WellScoped}
 use Rattle.rsml_meaning.proofs.MicroSteps.{rounds_are_determinate}
 use Rattle.rsml_meaning.proofs.Sources.{enabled_active}
 use Rattle.rsml_meaning.proofs.Turns.{order_does_not_matter}
-use Rattle.claims.specs.Claims.{Claim, all_true}
+use Rattle.claim_syntax.specs.declared.claim.Claim.{Claim}
+use Rattle.claims.specs.Claims.{all_true}
 use Rattle.claims.specs.Inductive.{Moment}
 use Rattle.claims.specs.Breaks.{IsBreak}
 use Rattle.claims.specs.NextWorlds.{TurnFalse}

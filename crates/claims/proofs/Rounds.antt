@@ -11,7 +11,8 @@ use Rattle.rsml_meaning.specs.Scoped.{WellScoped}
 use Rattle.rsml_meaning.specs.MicroSteps.{Result, IsResult}
 use Rattle.rsml_meaning.proofs.WorldSteps.{micro_steps_leave_worlds}
 use Rattle.rsml_meaning.proofs.Longer.{next_longer}
-use Rattle.claims.specs.Claims.{Claim, all_true}
+use Rattle.claim_syntax.specs.declared.claim.Claim.{Claim}
+use Rattle.claims.specs.Claims.{all_true}
 use Rattle.claims.specs.Inductive.{AreInductive}
 
 abbrev result : List TransitionInstance → List Sent → World → List Instance → Result

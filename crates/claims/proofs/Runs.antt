@@ -12,7 +12,8 @@ use Rattle.rsml_meaning.proofs.Lists.{each_append}
 use Rattle.rsml_meaning.proofs.Messages.{IsTold, all_told}
 use Rattle.rsml_meaning.proofs.Latched.{first_is_world, latched_is_world}
 use Rattle.rsml_meaning.proofs.Steps.{alone, step_leaves_world}
-use Rattle.claims.specs.Claims.{Claim, IsOfStates}
+use Rattle.claim_syntax.specs.declared.claim.Claim.{Claim}
+use Rattle.claim_syntax.specs.OfStates.{IsOfStates}
 use Rattle.claims.specs.Inductive.{AreInductive}
 use Rattle.claims.specs.Throughout.{reaction_worlds}
 use Rattle.claims.specs.Laws.{InductiveClaimsHold}

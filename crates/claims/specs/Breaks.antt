@@ -10,7 +10,8 @@ use Rattle.rsml_meaning.specs.Instances.{events}
 use Rattle.rsml_meaning.specs.Worlds.{world_cmp}
 use Rattle.rsml_meaning.specs.Report.{event_place}
 use Rattle.rsml_meaning.specs.MicroSteps.{Result}
-use Rattle.claims.specs.Claims.{Claim, all_true}
+use Rattle.claim_syntax.specs.declared.claim.Claim.{Claim}
+use Rattle.claims.specs.Claims.{all_true}
 use Rattle.claims.specs.Inductive.{Moment, MayCome, ComesTo}
 
 -- A break of claims: a moment that may come, at which all are true, and a micro-step at it that leaves a world in which not

@@ -7,7 +7,8 @@ use Rattle.rsml_meaning.specs.Worlds.{IsWorld}
 use Rattle.rsml_meaning.specs.Chains.{is_external, Ends}
 use Rattle.rsml_meaning.specs.Runs.{first_world}
 use Rattle.rsml_meaning.specs.MicroSteps.{Result, IsResult}
-use Rattle.claims.specs.Claims.{Claim, all_true}
+use Rattle.claim_syntax.specs.declared.claim.Claim.{Claim}
+use Rattle.claims.specs.Claims.{all_true}
 
 -- A moment of a step: the external event that the step is on, the number of the round, the events that are present, and
 -- the world.

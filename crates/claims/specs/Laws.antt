@@ -8,7 +8,9 @@ use Rattle.rsml_meaning.specs.EventFiles.{Line}
 use Rattle.rsml_meaning.specs.Runs.{first_world, Reaction, IsRun}
 use Rattle.rsml_meaning.specs.Scoped.{WellScoped}
 use Rattle.rsml_meaning.specs.MicroSteps.{Result}
-use Rattle.claims.specs.Claims.{Claim, IsOfStates, all_true}
+use Rattle.claim_syntax.specs.declared.claim.Claim.{Claim}
+use Rattle.claim_syntax.specs.OfStates.{IsOfStates}
+use Rattle.claims.specs.Claims.{all_true}
 use Rattle.claims.specs.Inductive.{Moment, MayCome, ComesTo, AreInductive}
 use Rattle.claims.specs.NextWorlds.{next_world, TurnFalse}
 use Rattle.claims.specs.Breaks.{IsBreak, IsLeastBreak, moment_cmp}

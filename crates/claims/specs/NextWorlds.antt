@@ -7,7 +7,8 @@ use Rattle.rsml_meaning.specs.Instances.{events}
 use Rattle.rsml_meaning.specs.Truth.{view}
 use Rattle.rsml_meaning.specs.Steps.{enabled_transitions}
 use Rattle.rsml_meaning.specs.Turns.{after_all}
-use Rattle.claims.specs.Claims.{Claim, all_true}
+use Rattle.claim_syntax.specs.declared.claim.Claim.{Claim}
+use Rattle.claims.specs.Claims.{all_true}
 use Rattle.claims.specs.Inductive.{Moment, MayCome}
 
 -- the next world: the enabled transitions are entered one after another, and the cells stay

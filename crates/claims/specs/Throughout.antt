@@ -4,7 +4,8 @@ use Rattle.rsml_syntax.specs.declared.syntax.Spec.{Spec}
 use Rattle.rsml_syntax.specs.declared.world.World.{World}
 use Rattle.rsml_meaning.specs.Words.{Each}
 use Rattle.rsml_meaning.specs.Runs.{first_world, Reaction}
-use Rattle.claims.specs.Claims.{Claim, all_true}
+use Rattle.claim_syntax.specs.declared.claim.Claim.{Claim}
+use Rattle.claims.specs.Claims.{all_true}
 
 -- the worlds of a reaction: the one that the event is latched in, and the one after each micro-step
 abbrev pub reaction_worlds : Reaction → List World

@@ -1,0 +1,4 @@
+pub mod Grammar
+pub mod Joined
+pub mod OfStates
+pub mod Places
