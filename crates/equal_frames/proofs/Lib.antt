@@ -1,0 +1,14 @@
+pub mod Agree
+pub mod Blank
+pub mod Certificates
+pub mod Guards
+pub mod Lists
+pub mod Members
+pub mod Micro
+pub mod Moves
+pub mod Once
+pub mod OneDifference
+pub mod Reading
+pub mod States
+pub mod Traces
+pub mod Worlds
