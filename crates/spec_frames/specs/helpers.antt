@@ -1,0 +1,2 @@
+pub mod PreviousCells
+pub mod Sameness
