@@ -8,14 +8,14 @@ use Rattle.bdd_core.specs.Diagram.{meaning}
 use Rattle.world_levels.specs.Spelling.{spelled_world}
 use Rattle.world_levels.specs.Laws.{AllSpellAWorld, EachWorldIsSpelled, FreeLevelsStay, FreeLevelsSpellNothing}
 use Rattle.keyed_levels.specs.declared.keyed.Keyed.{Keyed}
-use Rattle.keyed_levels.specs.Keyed.{Lawful, key_at, comparison, world_at}
+use Rattle.keyed_levels.specs.Keyed.{Lawful, key_at, comparison, phrases_of, world_at}
 use Rattle.keyed_levels.specs.Laws.{LawfulValuesSpellWorlds, EachWorldIsSpelledLawfully, TheyAreKeys, TellsOn, FalseInAllWorlds}
 
 -- no comparison depends on the level of one
 pub are_keys : FreeLevelsSpellNothing → TheyAreKeys
 are_keys nothing k are = record {
   differ = are.differ;
-  free = λ i j hi hj values value. ap (λ w. comparison w (slice_get k.base.phrases (key_at k.keyed i).phrase))
+  free = λ i j hi hj values value. ap (λ w. comparison w (slice_get (phrases_of k) (key_at k.keyed i).phrase))
       (nothing k.base.spec k.slots values (key_at k.keyed j).level value (are.free j hj));
 }
 
@@ -50,14 +50,14 @@ truth_at phrases w (x ∷ xs) h (suc i) less = by ((key_at xs i).level == x.leve
 -- each world is spelled by lawful values
 pub spelled_lawfully : EachWorldIsSpelled → FreeLevelsStay → EachWorldIsSpelledLawfully
 spelled_lawfully each stay k are w is =
-    let free : ℕ → Bool = truth_of k.base.phrases w k.keyed in
+    let free : ℕ → Bool = truth_of (phrases_of k) w k.keyed in
     let values : ℕ → Bool = spelled_world k.base.spec k.slots w free in
     let spells : world_at k values ≡ w = each k.base.spec k.slots are.layout w is free in
     record {
       values = values;
       lawful = λ i less. stay k.base.spec k.slots w free (key_at k.keyed i).level (are.free i less)
-          ∙ truth_at k.base.phrases w k.keyed are.differ i less
-          ∙ ap (λ v. comparison v (slice_get k.base.phrases (key_at k.keyed i).phrase)) (sym spells);
+          ∙ truth_at (phrases_of k) w k.keyed are.differ i less
+          ∙ ap (λ v. comparison v (slice_get (phrases_of k) (key_at k.keyed i).phrase)) (sym spells);
       spells = spells;
     }
 

@@ -1,3 +1,4 @@
+pub mod Bounds
 pub mod Lawful
 pub mod Pairs
 pub mod Places

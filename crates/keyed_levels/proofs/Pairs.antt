@@ -53,12 +53,12 @@ few_free (Part p w ∷ ss) k = let h = few_free ss (suc k) in omega (arith, h)
 
 -- Pairs.
 
-index_before : (xs ys : List Keyed) (i : ℕ) → i < length xs → key_at (xs ++ ys) i ≡ key_at xs i
+pub index_before : (xs ys : List Keyed) (i : ℕ) → i < length xs → key_at (xs ++ ys) i ≡ key_at xs i
 index_before [] ys i less = absurd (omega (arith, less))
 index_before (x ∷ xs) ys zero less = refl
 index_before (x ∷ xs) ys (suc i) less = index_before xs ys i (omega (arith, less))
 
-index_last : (xs : List Keyed) (k : Keyed) → key_at (xs ++ (k ∷ [])) (length xs) ≡ k
+pub index_last : (xs : List Keyed) (k : Keyed) → key_at (xs ++ (k ∷ [])) (length xs) ≡ k
 index_last [] k = refl
 index_last (x ∷ xs) k = index_last xs k
 

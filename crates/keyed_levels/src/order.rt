@@ -23,11 +23,14 @@ pub fn compared(alloc: Global, phrases: u32, order: &[KeyPlace]) -> Result<Vec<u
     Ok(numbers)
 }
 
-/// The levels of an order: a free one for each comparison.
-pub fn places(alloc: Global, order: &[KeyPlace]) -> Result<Vec<Place>, NoMemory> {
+/// The levels of an order: a free one for each comparison, and so many spare ones after them.
+pub fn places(alloc: Global, order: &[KeyPlace], spare: u32) -> Result<Vec<Place>, NoMemory> {
     let mut places = Vec::new(alloc);
     for place in order {
         places.push(level_place(alloc, place)?)?;
+    }
+    for _level in 0..spare {
+        places.push(Place::Free)?;
     }
     Ok(places)
 }

@@ -13,7 +13,7 @@ use Rattle.rsml_ground.specs.declared.phrases.GroundPhrase.TheVariants as phrase
 use Rattle.rsml_ground.specs.Truths.{sum_number}
 use Rattle.world_levels.specs.Spelling.{WorldLevels, world_of}
 use Rattle.keyed_levels.specs.declared.keyed.Keyed.{Keyed}
-use Rattle.keyed_levels.specs.Keyed.{KeyedWorlds, comparison, key_at, keys_of, world_at}
+use Rattle.keyed_levels.specs.Keyed.{KeyedWorlds, comparison, key_at, keys_of, phrases_of, world_at}
 use Rattle.settled_worlds.specs.Settled.{AreExact}
 
 -- what stands in a list of which one item was set
@@ -44,9 +44,9 @@ exact_more a b k exact more place made keeps are is same = subst (λ e. AreExact
 
 -- the exact diagram of a comparison
 pub compared : (d : Diagram) (k : KeyedWorlds) (l : WorldLevels) (phrase : ℕ) (left right : GroundSum) (relation : Relation) (r : ℕ) → l.spec ≡ k.base.spec → l.slots ≡ k.slots
-    → slice_get k.base.phrases phrase ≡ Some (phrases.Compare left relation right)
+    → slice_get (phrases_of k) phrase ≡ Some (phrases.Compare left relation right)
     → Represents d (λ v. compare relation (sum_number (world_of l.spec l.slots v).cells left) (sum_number (world_of l.spec l.slots v).cells right)) r
-    → Represents d (λ v. comparison (world_at k v) (slice_get k.base.phrases phrase)) r
+    → Represents d (λ v. comparison (world_at k v) (slice_get (phrases_of k) phrase)) r
 compared d k l phrase left right relation r spec slots at h = record {
   is_ref = h.is_ref;
   means = λ v.
@@ -58,5 +58,5 @@ compared d k l phrase left right relation r spec slots at h = record {
 
 -- that of a key's comparison
 pub of_key : (d : Diagram) (k : KeyedWorlds) (place : ℕ) (t : Keyed) (r : ℕ) → t ≡ key_at k.keyed place
-    → Represents d (λ v. comparison (world_at k v) (slice_get k.base.phrases t.phrase)) r → Represents d ((keys_of k).function place) r
-of_key d k place t r is h = subst (λ (x : Keyed). Represents d (λ v. comparison (world_at k v) (slice_get k.base.phrases x.phrase)) r) is h
+    → Represents d (λ v. comparison (world_at k v) (slice_get (phrases_of k) t.phrase)) r → Represents d ((keys_of k).function place) r
+of_key d k place t r is h = subst (λ (x : Keyed). Represents d (λ v. comparison (world_at k v) (slice_get (phrases_of k) x.phrase)) r) is h

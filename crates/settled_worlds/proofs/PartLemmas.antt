@@ -13,7 +13,7 @@ use Rattle.world_levels.specs.Spelling.{cell_part}
 use Rattle.world_levels.proofs.Changes.{cell_spells_itself}
 use Rattle.free_levels.specs.Values.{is_in}
 use Rattle.free_levels.proofs.StageLemmas.{never_true}
-use Rattle.keyed_levels.specs.Keyed.{KeyedWorlds, AreKeyed, key_at, world_at}
+use Rattle.keyed_levels.specs.Keyed.{AreKeyed, KeyedWorlds, key_at, phrases_of, world_at}
 use Rattle.settled_worlds.specs.Settled.{cell_levels}
 use Rattle.settled_worlds.specs.Steps.{all_but, compares, is_kept, IsUnread}
 use Rattle.settled_worlds.proofs.ReadLemmas.{same_comparison}
@@ -80,10 +80,10 @@ apart k cell i are less = never_true (is_in (cell_levels k cell) (key_at k.keyed
     true≢false (ap free_there (sym (are.free i less) ∙ (level_of k cell (key_at k.keyed i).level e).1)))
 
 -- a key that does not name the cell
-pub unread : (k : KeyedWorlds) (cell i : ℕ) → cell < length (cells k.base.spec) → compares cell (slice_get k.base.phrases (key_at k.keyed i).phrase) ≡ false → IsUnread k cell i
+pub unread : (k : KeyedWorlds) (cell i : ℕ) → cell < length (cells k.base.spec) → compares cell (slice_get (phrases_of k) (key_at k.keyed i).phrase) ≡ false → IsUnread k cell i
 unread k cell i less not = λ level there values value.
     let differ = cell_spells_itself k.base.spec k.slots values cell level value less (level_of k cell level there) in
-    same_comparison cell (world_at k (with_value values level value)) (world_at k values) (slice_get k.base.phrases (key_at k.keyed i).phrase) differ.cells not
+    same_comparison cell (world_at k (with_value values level value)) (world_at k values) (slice_get (phrases_of k) (key_at k.keyed i).phrase) differ.cells not
 
 abbrev part_at : Option Slot → ℕ
 part_at None = 0

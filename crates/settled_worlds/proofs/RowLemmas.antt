@@ -22,7 +22,7 @@ use Rattle.rsml_ground.specs.declared.sums.GroundSum.{GroundSum}
 use Rattle.rsml_ground.specs.declared.phrases.GroundPhrase.TheVariants as phrases
 use Rattle.rsml_ground.specs.Rests.{IsSmall, OperandFits, SumFits}
 use Rattle.rsml_ground.specs.Truths.{operand_number, term_number, sum_number}
-use Rattle.keyed_levels.specs.Keyed.{KeyedWorlds, comparison, key_at, world_at}
+use Rattle.keyed_levels.specs.Keyed.{KeyedWorlds, comparison, key_at, phrases_of, world_at}
 use Rattle.settled_worlds.specs.declared.literal.Literal.{Literal}
 use Rattle.settled_worlds.specs.declared.rows.Rows.{Rows}
 use Rattle.settled_worlds.specs.Conflicts.{no_literal, literal_at, numbers_of, numbers_at, operand_terms, term_terms, sum_terms, AreRows, HasMargin, IsMargin, IsRowOf, IsSmallSum, IsSo, IsThere}
@@ -174,7 +174,7 @@ no_rows k r rows literals = record {
 
 -- a literal and a margin of its relation
 pub has_margin : (k : KeyedWorlds) (literal : Literal) (left right : GroundSum) (relation : Relation) (margin : Option ℤ)
-    → slice_get k.base.phrases (key_at k.keyed literal.place).phrase ≡ Some (phrases.Compare left relation right)
+    → slice_get (phrases_of k) (key_at k.keyed literal.place).phrase ≡ Some (phrases.Compare left relation right)
     → IfSome margin (IsMargin relation literal.truth) → HasMargin k literal left margin right
 has_margin k literal left right relation None at h values so = tt
 has_margin k literal left right relation (Some m) at h values so =
@@ -183,7 +183,7 @@ has_margin k literal left right relation (Some m) at h values so =
 
 -- and of the relation that is turned
 pub has_margin_turned : (k : KeyedWorlds) (literal : Literal) (left right : GroundSum) (relation turned : Relation) (margin : Option ℤ)
-    → slice_get k.base.phrases (key_at k.keyed literal.place).phrase ≡ Some (phrases.Compare left relation right)
+    → slice_get (phrases_of k) (key_at k.keyed literal.place).phrase ≡ Some (phrases.Compare left relation right)
     → ((x y : ℤ) → compare turned y x ≡ compare relation x y) → IfSome margin (IsMargin turned literal.truth) → HasMargin k literal right margin left
 has_margin_turned k literal left right relation turned None at turns h values so = tt
 has_margin_turned k literal left right relation turned (Some m) at turns h values so =

@@ -1,7 +1,7 @@
 //! Exact diagrams of comparisons.
 ghost use Rattle.std.specs.Prelude.{◌≡◌, ◌<◌, IfOk, length, slice_get};
 ghost use Rattle.bdd_core.specs.Calls.{Keeps, Represents};
-ghost use Rattle.keyed_levels.specs.Keyed.{comparison, keys_of, world_at};
+ghost use Rattle.keyed_levels.specs.Keyed.{comparison, keys_of, phrases_of, world_at};
 ghost use Rattle.settled_worlds.specs.Settled.{AreExact};
 
 use crate::exact_keys::ExactKeys;
@@ -48,12 +48,12 @@ fn truth_of(
     phrase: u32,
 ) -> Result<Ref, NoMemory>
     requires room { arena.old.levels ≡ length levels.now.slots }
-    requires phrase { phrase < length levels.now.base.phrases }
+    requires phrase { phrase < length (phrases_of levels.now) }
     ensures keeps { Keeps arena.old arena.new }
     ensures answer { IfOk result (Represents arena.new (λ values.
-        comparison (world_at levels.now values) (slice_get levels.now.base.phrases phrase))) }
+        comparison (world_at levels.now values) (slice_get (phrases_of levels.now) phrase))) }
 {
-    match levels.macros().phrase(phrase) {
+    match levels.phrase(phrase) {
         GroundPhrase::Compare {
             left,
             relation,

@@ -1,4 +1,4 @@
-ghost use Rattle.std.specs.Prelude.{◌≡◌, ◌<◌, IfOk, None, Some, length, replicate, slice_get, slice_set};
+ghost use Rattle.std.specs.Prelude.{◌≡◌, ◌<◌, ◌++◌, [], ◌∷◌, IfOk, None, OnErr, OnOk, Some, length, replicate, slice_get, slice_set, take};
 
 use bdd_core::Ref;
 use rsml_base::NoMemory;
@@ -36,6 +36,22 @@ impl ExactKeys {
             granted: usize::MAX,
             before: 0,
         })
+    }
+
+    /// Room for one more key, whose diagram is not made. Where memory is refused nothing changes.
+    pub fn push(&mut self) -> Result<(), NoMemory>
+        ensures ok { OnOk result (self.new ≡ self.old ++ None ∷ []) }
+        ensures err { OnErr result (self.new ≡ self.old) }
+    {
+        self.made.push(None)?;
+        Ok(())
+    }
+
+    /// Keeps the diagrams of the first so many keys alone.
+    pub fn keep(&mut self, count: usize)
+        ensures { self.new ≡ take count self.old }
+    {
+        self.made.truncate(count);
     }
 
     /// From now on functions are settled only as long as about so many nodes suffice for all of them.

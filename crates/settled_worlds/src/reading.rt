@@ -1,6 +1,6 @@
 //! The cells that comparisons read.
 ghost use Rattle.std.specs.Prelude.{◌≡◌, ◌<◌, length, slice_get};
-ghost use Rattle.keyed_levels.specs.Keyed.{key_at};
+ghost use Rattle.keyed_levels.specs.Keyed.{key_at, phrases_of};
 ghost use Rattle.settled_worlds.specs.Steps as spec;
 
 use crate::one_key::key;
@@ -12,9 +12,9 @@ use std::alloc::Global;
 /// Whether the comparison of the key at a place names a cell.
 pub(crate) fn reads(levels: &KeyedLevels<'_, '_>, place: usize, cell: u32) -> bool
     requires { place < length levels.now.keyed }
-    ensures { result ≡ spec.compares cell (slice_get levels.now.base.phrases (key_at levels.now.keyed place).phrase) }
+    ensures { result ≡ spec.compares cell (slice_get (phrases_of levels.now) (key_at levels.now.keyed place).phrase) }
 {
-    match levels.macros().phrase(key(levels, place).phrase) {
+    match levels.phrase(key(levels, place).phrase) {
         GroundPhrase::Compare { left, right, .. } => names(left, cell) || names(right, cell),
         _ => false,
     }
@@ -48,10 +48,7 @@ pub(crate) fn cells_of(
     requires { place < length levels.now.keyed }
 {
     let mut cells = Vec::new(alloc);
-    if let GroundPhrase::Compare { left, right, .. } = levels
-        .macros()
-        .phrase(key(levels, place).phrase)
-    {
+    if let GroundPhrase::Compare { left, right, .. } = levels.phrase(key(levels, place).phrase) {
         push_cells(&mut cells, left)?;
         push_cells(&mut cells, right)?;
     }

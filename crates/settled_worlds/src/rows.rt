@@ -66,7 +66,7 @@ fn push_literal(
         left,
         relation,
         right,
-    } = levels.macros().phrase(key(levels, literal.place).phrase)
+    } = levels.phrase(key(levels, literal.place).phrase)
     {
         let above = margin(*relation, literal.truth);
         push_side(alloc, rows, literal, left, above, right)?;
