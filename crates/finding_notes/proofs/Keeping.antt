@@ -9,6 +9,7 @@ use Rattle.guard_encode.proofs.StepLemmas.{keeps_on}
 pub no_calls : (e : Encoding) → Keeps e e
 no_calls e = record {
   machine = refl;
+  beside = refl;
   slots = refl;
   keyed = refl;
   diagram = record { same_levels = refl; longer = omega arith; nodes_stay = λ f is. refl; meanings_stay = λ f v is. refl };

@@ -18,7 +18,7 @@ use Rattle.elaborate.specs.Machine.{GroundMachine}
 use Rattle.free_levels.specs.Values.{is_in}
 use Rattle.keyed_levels.specs.Keyed.{KeyedWorlds}
 use Rattle.settled_worlds.specs.Settled.{DependsOn, IsProjected, IsSameLawfully, cell_levels}
-use Rattle.guard_encode.specs.Encoding.{Encoding, IsOfCell, Keeps, encoding_of, is_at_most, worlds_of}
+use Rattle.guard_encode.specs.Encoding.{Encoding, IsOfCell, Keeps, encoding_of, is_at_most, passes, worlds_of}
 use Rattle.guard_encode.proofs.DecidedLemmas.{same_worlds}
 
 abbrev pub level_list : List Weighted → List ℕ
@@ -69,21 +69,52 @@ same_at slots v w p (suc i) (c ∷ cs) same =
     let e : p + suc i ≡ suc p + i = omega arith in
     same_at slots v w (suc p) i cs (subst (λ q. number q slots v 0 ≡ number q slots w 0) e same)
 
-pub depends : (k : KeyedWorlds) (cell : ℕ) (n : ℤ) → DependsOn (cell_levels k cell) (is_at_most k cell n)
-depends k cell n one other same =
-    ap (λ x. int_le x n) (same_at k.slots one other _ cell (cells k.base.spec) (same_number (cell_part k.base.spec cell) k.slots one other 0 same))
+pub depends : (k : KeyedWorlds) (cell : ℕ) (test : ℤ → Bool) → DependsOn (cell_levels k cell) (passes test k cell)
+depends k cell test one other same =
+    ap test (same_at k.slots one other _ cell (cells k.base.spec) (same_number (cell_part k.base.spec cell) k.slots one other 0 same))
 
 -- it still is, in an arena that has grown
 pub of_cell_on : (e n : Encoding) (cell : ℕ) (truth : World → Bool) (r : ℕ) → Keeps e n → IsOfCell e cell truth r → IsOfCell n cell truth r
 of_cell_on e n cell truth r keeps of = record {
   is_ref = omega (arith, of.is_ref, keeps.diagram.longer);
-  same = λ number. subst
-      (λ (k : KeyedWorlds). ((values : ℕ → Bool) → (meaning n.diagram r values && is_at_most k cell number values) ≡ false)
-      ↔ ((w : World) → IsWorld k.base.spec w → (truth w && int_le (slice_index_or w.cells cell (pos 0)) number) ≡ false))
+  same = λ test. subst
+      (λ (k : KeyedWorlds). ((values : ℕ → Bool) → (meaning n.diagram r values && passes test k cell values) ≡ false)
+      ↔ ((w : World) → IsWorld k.base.spec w → (truth w && test (slice_index_or w.cells cell (pos 0))) ≡ false))
       (sym (same_worlds e n keeps)) (
-        λ never. (of.same number).0 (λ v. ap (λ b. b && is_at_most (worlds_of e) cell number v) (sym (keeps.diagram.meanings_stay r v of.is_ref)) ∙ never v),
-        λ never v. ap (λ b. b && is_at_most (worlds_of e) cell number v) (keeps.diagram.meanings_stay r v of.is_ref) ∙ (of.same number).1 never v,
+        λ never. (of.same test).0 (λ v. ap (λ b. b && passes test (worlds_of e) cell v) (sym (keeps.diagram.meanings_stay r v of.is_ref)) ∙ never v),
+        λ never v. ap (λ b. b && passes test (worlds_of e) cell v) (keeps.diagram.meanings_stay r v of.is_ref) ∙ (of.same test).1 never v,
       );
+}
+
+-- it tells what is the same of all worlds
+pub of_cell_as : (e : Encoding) (cell : ℕ) (first other : World → Bool) (r : ℕ) → ((w : World) → IsWorld e.machine.base.spec w → first w ≡ other w) → IsOfCell e cell first r → IsOfCell e cell other r
+of_cell_as e cell first other r same of = record {
+  is_ref = of.is_ref;
+  same = λ test. (
+    λ never w is. ap (λ b. b && test (slice_index_or w.cells cell (pos 0))) (sym (same w is)) ∙ (of.same test).0 never w is,
+    λ never. (of.same test).1 (λ w is. ap (λ b. b && test (slice_index_or w.cells cell (pos 0))) (same w is) ∙ never w is),
+  );
+}
+
+and_assoc : (a b c : Bool) → ((a && b) && c) ≡ (a && (b && c))
+and_assoc true b c = refl
+and_assoc false b c = refl
+
+-- and where besides its number passes a test
+pub of_cell_with : (e n : Encoding) (cell : ℕ) (truth : World → Bool) (has : ℤ → Bool) (f r : ℕ) → Keeps e n → Represents n.diagram (λ v. meaning e.diagram f v && passes has (worlds_of e) cell v) r
+    → IsOfCell e cell truth f → IsOfCell n cell (λ w. truth w && has (slice_index_or w.cells cell (pos 0))) r
+of_cell_with e n cell truth has f r keeps h of = record {
+  is_ref = h.is_ref;
+  same = λ test. subst
+      (λ (k : KeyedWorlds). ((values : ℕ → Bool) → (meaning n.diagram r values && passes test k cell values) ≡ false)
+      ↔ ((w : World) → IsWorld k.base.spec w → ((truth w && has (slice_index_or w.cells cell (pos 0))) && test (slice_index_or w.cells cell (pos 0))) ≡ false))
+      (sym (same_worlds e n keeps))
+      (let both = of.same (λ z. has z && test z) in
+      let at : (v : ℕ → Bool) → (meaning n.diagram r v && passes test (worlds_of e) cell v) ≡ (meaning e.diagram f v && passes (λ z. has z && test z) (worlds_of e) cell v) =
+      λ v. ap (λ b. b && passes test (worlds_of e) cell v) (h.means v) ∙ and_assoc (meaning e.diagram f v) (passes has (worlds_of e) cell v) (passes test (worlds_of e) cell v) in (
+        λ never w is. and_assoc (truth w) (has (slice_index_or w.cells cell (pos 0))) (test (slice_index_or w.cells cell (pos 0))) ∙ both.0 (λ v. sym (at v) ∙ never v) w is,
+        λ never v. at v ∙ both.1 (λ w is. sym (and_assoc (truth w) (has (slice_index_or w.cells cell (pos 0))) (test (slice_index_or w.cells cell (pos 0)))) ∙ never w is) v,
+      ));
 }
 
 -- what is projected over an encoder's own levels

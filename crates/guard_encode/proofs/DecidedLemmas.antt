@@ -29,7 +29,7 @@ exact_false all e truth f keyed is_false told = record {
 }
 
 pub same_worlds : (e n : Encoding) → Keeps e n → worlds_of n ≡ worlds_of e
-same_worlds e n keeps = λ i. record { base = (keeps.machine i).base; slots = keeps.slots i; keyed = keeps.keyed i }
+same_worlds e n keeps = λ i. record { base = (keeps.machine i).base; beside = keeps.beside i; slots = keeps.slots i; keyed = keeps.keyed i }
 
 pub still_keyed : (e n : Encoding) → Keeps e n → AreKeyed (worlds_of e) → AreKeyed (worlds_of n)
 still_keyed e n keeps keyed = subst AreKeyed (sym (same_worlds e n keeps)) keyed

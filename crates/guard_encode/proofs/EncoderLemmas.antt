@@ -10,11 +10,12 @@ use Rattle.world_levels.specs.Spelling.{WorldLevels}
 use Rattle.phrase_diagrams.specs.Tells as exact
 use Rattle.phrase_diagrams.specs.Diagrams.{truths_at}
 use Rattle.elaborate.specs.Machine.{GroundMachine}
-use Rattle.keyed_levels.specs.Keyed.{KeyedWorlds, AreKeyed, Lawful, Tells, world_at}
+use Rattle.keyed_levels.specs.Keyed.{AreKeyed, Extends, HasNoBounds, KeyedWorlds, Lawful, Tells, world_at}
+use Rattle.keyed_levels.proofs.Bounds.{extends_itself, tells_more}
 use Rattle.keyed_levels.proofs.Lawful.{tells_on}
 use Rattle.settled_worlds.specs.Settled.{AreExact}
 use Rattle.guard_encode.specs.Phrases.{AreActive, ArePhrases}
-use Rattle.guard_encode.specs.Encoding.{AreEncoded, AreStored, Encoding, Made}
+use Rattle.guard_encode.specs.Encoding.{AreEncoded, AreStored, Encoding, Made, encoding_of, unbounded_of, worlds_of}
 use Rattle.guard_encode.specs.Encoding.{Tells as EncodingTells}
 use Rattle.std.proofs.lemmas.Option.{same_Some}
 use Rattle.state_tree.proofs.Lists.{within_get}
@@ -47,19 +48,31 @@ none_exact d k n exact many is = record {
   each = λ i f at. absurd (not_made n i f (ap (λ (xs : List (Option ℕ)). slice_get xs i) (sym is) ∙ at));
 }
 
+-- levels without bounds, over the phrases of the machine
+pub own_unbounded : (m : GroundMachine) (k : KeyedWorlds) (d : Diagram) → HasNoBounds k → unbounded_of (encoding_of m k d) ≡ worlds_of (encoding_of m k d)
+own_unbounded m k d none = ap (λ (j : KeyedWorlds). record j { base = m.base }) none
+
 -- the parts of an encoder, over levels of its machine's phrases
-pub are_encoded : (m : GroundMachine) (k : KeyedWorlds) (d : Diagram) (made : Made) → k.base ≡ m.base → AreKeyed k → d.levels ≡ length k.slots
+pub are_encoded : (m : GroundMachine) (k : KeyedWorlds) (d : Diagram) (made : Made) → k.base ≡ m.base → HasNoBounds k → AreKeyed k → d.levels ≡ length k.slots
     → AreActive d k made.active → ArePhrases d k (length k.base.phrases) made.phrases → AreExact d k made.exact → AreEncoded m k d made
-are_encoded m k d made same keyed room are_active are_phrases are_exact = record {
+are_encoded m k d made same none keyed room are_active are_phrases are_exact = record {
   same = same;
   stored = record {
     levels = subst (λ (g : Grounded). AreKeyed (record k { base = g })) same keyed;
     same_levels = room;
-    active_are = subst (λ (g : Grounded). AreActive d (record k { base = g }) made.active) same are_active;
-    phrases_are = subst (λ (g : Grounded). ArePhrases d (record k { base = g }) (length g.phrases) made.phrases) same are_phrases;
+    first = subst (λ (j : KeyedWorlds). Extends j own) (sym unbound) (extends_itself own);
+    active_are = subst (λ (j : KeyedWorlds). AreActive d j made.active) (sym unbound) (subst (λ (g : Grounded). AreActive d (record k { base = g }) made.active) same are_active);
+    phrases_are = subst (λ (j : KeyedWorlds). ArePhrases d j (length m.base.phrases) made.phrases) (sym unbound)
+        (subst (λ (g : Grounded). ArePhrases d (record k { base = g }) (length g.phrases) made.phrases) same are_phrases);
     exact_are = subst (λ (g : Grounded). AreExact d (record k { base = g }) made.exact) same are_exact;
   };
 }
+  where
+    own : KeyedWorlds
+    own = worlds_of (encoding_of m k d)
+
+    unbound : unbounded_of (encoding_of m k d) ≡ worlds_of (encoding_of m k d)
+    unbound = own_unbounded m k d none
 
 -- the diagrams of all phrases have their truths
 pub all_truths : (d : Diagram) (k : KeyedWorlds) (phrases : List ℕ) → ArePhrases d k (length k.base.phrases) phrases → (v : ℕ → Bool) → Lawful k v → truths_at d phrases v ≡ truths_in k.base (world_at k v)
@@ -77,4 +90,5 @@ pub active_at : (e : Encoding) (made : Made) (node r : ℕ) → AreStored e made
 active_at e made node r are less is =
     let within : node < length made.active = omega (arith, less, are.active_are.many) in
     let f = within_get made.active node within in
-    subst (EncodingTells e (λ w. is_active e.machine.base.spec w node)) (sym (is ∙ get_at made.active node f.0 r f.1)) (are.active_are.each node f.0 f.1)
+    subst (EncodingTells e (λ w. is_active e.machine.base.spec w node)) (sym (is ∙ get_at made.active node f.0 r f.1))
+    (tells_more e.diagram (unbounded_of e) (worlds_of e) (λ w. is_active e.machine.base.spec w node) f.0 are.first (are.active_are.each node f.0 f.1))

@@ -1,5 +1,5 @@
 -- What functions find.
-use Rattle.std.proofs.Common.{◌≡◌, ℕ, ◌==◌, ◌↔◌, Bool, true, false, ◌&&◌, length, refl, sym, ap, ◌∙◌, subst, true≢false, arith, slice_index_or, ℤ, pos, int_le}
+use Rattle.std.proofs.Common.{◌≡◌, ℕ, ◌==◌, ◌↔◌, Bool, true, false, ◌&&◌, length, refl, sym, ap, ◌∙◌, subst, true≢false, arith, slice_index_or, ℤ, pos}
 use Rattle.std.specs.Ordering.{int_eq}
 use Rattle.std.proofs.lemmas.Bool.Decides.{nat_tests}
 use Rattle.std.proofs.lemmas.Int.{ints}
@@ -14,7 +14,7 @@ use Rattle.elaborate.specs.Machine.{GroundMachine}
 use Rattle.keyed_levels.specs.Keyed.{KeyedWorlds, AreKeyed, Lawful, world_at}
 use Rattle.keyed_levels.specs.Laws.{EachWorldIsSpelledLawfully, LawfulValuesSpellWorlds}
 use Rattle.settled_worlds.specs.Settled.{IsProjected, IsSameLawfully, IsSettled, cell_levels}
-use Rattle.guard_encode.specs.Encoding.{Encoding, Finds, FindsAt, FindsExactly, IsOfCell, Keeps, Tells, encoding_of, is_at_most, worlds_of}
+use Rattle.guard_encode.specs.Encoding.{Encoding, Finds, FindsAt, FindsExactly, IsOfCell, Keeps, Tells, encoding_of, passes, worlds_of}
 use Rattle.guard_encode.specs.Spelling.{IsNumber}
 use Rattle.guard_encode.proofs.CellLemmas.{depends}
 use Rattle.guard_encode.proofs.DecidedLemmas.{same_worlds, still_keyed}
@@ -225,11 +225,11 @@ pub found_of_cell : EachWorldIsSpelled → FreeLevelsStay → EachWorldIsSpelled
     → IsProjected e.diagram n.diagram (worlds_of e) (cell_levels (worlds_of e) cell) f r → Finds e truth f → IsOfCell n cell truth r
 found_of_cell each stay lawfully spell e n cell f r truth keeps keyed projected found = record {
   is_ref = projected.is_ref;
-  same = λ number. subst
-      (λ (k : KeyedWorlds). ((values : ℕ → Bool) → (meaning n.diagram r values && is_at_most k cell number values) ≡ false)
-      ↔ ((w : World) → IsWorld k.base.spec w → (truth w && int_le (slice_index_or w.cells cell (pos 0)) number) ≡ false))
+  same = λ test. subst
+      (λ (k : KeyedWorlds). ((values : ℕ → Bool) → (meaning n.diagram r values && passes test k cell values) ≡ false)
+      ↔ ((w : World) → IsWorld k.base.spec w → (truth w && test (slice_index_or w.cells cell (pos 0))) ≡ false))
       (sym (same_worlds e n keeps))
-      (let one = projected.same (is_at_most (worlds_of e) cell number) (depends (worlds_of e) cell number) in
-      let other = found_with each stay lawfully spell e.diagram (worlds_of e) truth (λ w. int_le (slice_index_or w.cells cell (pos 0)) number) f keyed found in
+      (let one = projected.same (passes test (worlds_of e) cell) (depends (worlds_of e) cell test) in
+      let other = found_with each stay lawfully spell e.diagram (worlds_of e) truth (λ w. test (slice_index_or w.cells cell (pos 0))) f keyed found in
       (λ never. other.0 (one.0 never), λ never. one.1 (other.1 never)));
 }

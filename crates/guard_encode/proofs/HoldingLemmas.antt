@@ -19,7 +19,7 @@ use Rattle.world_levels.specs.Spelling.{free_from}
 use Rattle.world_levels.specs.Laws.{EachWorldIsSpelled, FreeLevelsStay}
 use Rattle.elaborate.specs.Machine.{GroundMachine}
 use Rattle.keyed_levels.specs.declared.keyed.Keyed.{Keyed}
-use Rattle.keyed_levels.specs.Keyed.{KeyedWorlds, AreKeyed, Lawful, Tells, comparison, key_at}
+use Rattle.keyed_levels.specs.Keyed.{AreKeyed, KeyedWorlds, Lawful, Tells, comparison, key_at, phrases_of}
 use Rattle.guard_encode.specs.Encoding.{encoding_of, worlds_of}
 use Rattle.guard_encode.specs.Encoding.{Tells as EncodingTells}
 use Rattle.guard_encode.specs.Holding.{key_truth, values_in}
@@ -57,22 +57,22 @@ not_found (y ∷ ys) level i h less same = by (y.level == level) refl (not_found
     by false e rest (suc j) h less same = rest j h (omega (arith, less)) same
 
 -- the key that is found has a phrase that there is
-pub found_phrase : (k : KeyedWorlds) (level : ℕ) (x : Keyed) → AreKeyed k → find (λ (y : Keyed). y.level == level) k.keyed ≡ Some x → x.phrase < length k.base.phrases
+pub found_phrase : (k : KeyedWorlds) (level : ℕ) (x : Keyed) → AreKeyed k → find (λ (y : Keyed). y.level == level) k.keyed ≡ Some x → x.phrase < length (phrases_of k)
 found_phrase k level x are e =
     let f = found k.keyed level x e in
-    subst (λ (z : Keyed). z.phrase < length k.base.phrases) f.own (are.phrase f.place f.there)
+    subst (λ (z : Keyed). z.phrase < length (phrases_of k)) f.own (are.phrase f.place f.there)
 
 own_truth : (k : KeyedWorlds) (w : World) → AreKeyed k → (i : ℕ) → i < length k.keyed
-    → key_truth k w (key_at k.keyed i).level ≡ comparison w (slice_get k.base.phrases (key_at k.keyed i).phrase)
+    → key_truth k w (key_at k.keyed i).level ≡ comparison w (slice_get (phrases_of k) (key_at k.keyed i).phrase)
 own_truth k w are i less = by (find (λ (y : Keyed). y.level == (key_at k.keyed i).level) k.keyed) refl
   where
     by : (o : Option Keyed) → find (λ (y : Keyed). y.level == (key_at k.keyed i).level) k.keyed ≡ o
-        → option_map_or (λ (x : Keyed). comparison w (slice_get k.base.phrases x.phrase)) o false ≡ comparison w (slice_get k.base.phrases (key_at k.keyed i).phrase)
+        → option_map_or (λ (x : Keyed). comparison w (slice_get (phrases_of k) x.phrase)) o false ≡ comparison w (slice_get (phrases_of k) (key_at k.keyed i).phrase)
     by None e = absurd (not_found k.keyed (key_at k.keyed i).level i e less refl)
     by (Some x) e =
         let f = found k.keyed (key_at k.keyed i).level x e in
         let same : f.place ≡ i = are.differ f.place i f.there less (ap (λ (z : Keyed). z.level) f.own ∙ f.of_level) in
-        ap (λ (z : Keyed). comparison w (slice_get k.base.phrases z.phrase)) (sym f.own ∙ ap (λ j. key_at k.keyed j) same)
+        ap (λ (z : Keyed). comparison w (slice_get (phrases_of k) z.phrase)) (sym f.own ∙ ap (λ j. key_at k.keyed j) same)
 
 -- The slot of a level.
 
@@ -131,7 +131,7 @@ unfolding values_in
 lawful_in each stay k are w is = λ i less.
     stay k.base.spec k.slots w (key_truth k w) (key_at k.keyed i).level (are.free i less)
     ∙ own_truth k w are i less
-    ∙ ap (λ v. comparison v (slice_get k.base.phrases (key_at k.keyed i).phrase)) (sym (each k.base.spec k.slots are.layout w is (key_truth k w)))
+    ∙ ap (λ v. comparison v (slice_get (phrases_of k) (key_at k.keyed i).phrase)) (sym (each k.base.spec k.slots are.layout w is (key_truth k w)))
 
 told_in : EachWorldIsSpelled → FreeLevelsStay → (d : Diagram) (k : KeyedWorlds) (truth : World → Bool) (f : ℕ) (w : World) → AreKeyed k → IsWorld k.base.spec w → Tells d k truth f
     → meaning d f (values_in k w) ≡ truth w

@@ -1,4 +1,5 @@
 pub mod Telling
+pub mod BoundLemmas
 pub mod CaseLemmas
 pub mod NextLemmas
 pub mod PhraseLemmas

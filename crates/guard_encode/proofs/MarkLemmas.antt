@@ -17,7 +17,7 @@ use Rattle.free_levels.specs.Values.{is_in}
 use Rattle.free_levels.proofs.StageLemmas.{never_true}
 use Rattle.free_levels.proofs.ValueLemmas.{or-false_left, or-false_right}
 use Rattle.keyed_levels.specs.declared.keyed.Keyed.{Keyed}
-use Rattle.keyed_levels.specs.Keyed.{KeyedWorlds, key_at, no_key}
+use Rattle.keyed_levels.specs.Keyed.{KeyedWorlds, key_at, no_key, phrases_of}
 use Rattle.rsml_ground.specs.declared.phrases.GroundPhrase.{GroundPhrase}
 use Rattle.settled_worlds.specs.Steps.{compares}
 use Rattle.guard_encode.specs.Marking.{AreOfPart, AreRead, Marks, is_compared, is_named, is_used_at}
@@ -104,14 +104,14 @@ more_marked these xs n d a b c less before here =
 -- a key whose level is not used names nothing
 pub unused_marked : (k : KeyedWorlds) (used : List Bool) (x : Keyed) (marks : List Bool) → slice_index_or used x.level false ≡ false → Marks (is_named k used x) marks marks
 unused_marked k used x marks not =
-    marked_as (λ place. false) (is_named k used x) marks marks (λ place. sym (ap (λ b. b && compares place (slice_get k.base.phrases x.phrase)) not)) (none_marked marks)
+    marked_as (λ place. false) (is_named k used x) marks marks (λ place. sym (ap (λ b. b && compares place (slice_get (phrases_of k) x.phrase)) not)) (none_marked marks)
 
 -- one whose level is used names what its comparison does
 pub used_marked : (k : KeyedWorlds) (used : List Bool) (x : Keyed) (p : GroundPhrase) (a b : List Bool) → slice_index_or used x.level false ≡ true
-    → slice_get k.base.phrases x.phrase ≡ Some p → Marks (λ cell. compares cell (Some p)) a b → Marks (is_named k used x) a b
+    → slice_get (phrases_of k) x.phrase ≡ Some p → Marks (λ cell. compares cell (Some p)) a b → Marks (is_named k used x) a b
 used_marked k used x p a b is at h =
     marked_as (λ cell. compares cell (Some p)) (is_named k used x) a b
-    (λ place. sym (ap (λ t. t && compares place (slice_get k.base.phrases x.phrase)) is ∙ ap (compares place) at)) h
+    (λ place. sym (ap (λ t. t && compares place (slice_get (phrases_of k) x.phrase)) is ∙ ap (compares place) at)) h
 
 -- What is marked at the end.
 
@@ -140,7 +140,7 @@ all_read d k f many_components many_cells used choices spelled marks ignores all
   of_cell = λ cell at level there. ignores level (unused_levels used (bits_of (length (components k.base.spec) + cell) false k.slots 0)
       (ap (λ n. list_any (is_used_at used) (bits_of (n + cell) false k.slots 0)) (sym all_components) ∙ of_cells.unused cell (compared.unmarked cell at).0) level there);
   of_key = λ cell i at less reads. ignores (key_at k.keyed i).level (unused_key (slice_index_or used (key_at k.keyed i).level false)
-      (compares cell (slice_get k.base.phrases (key_at k.keyed i).phrase))
+      (compares cell (slice_get (phrases_of k) (key_at k.keyed i).phrase))
       (never_true (is_named k used (key_at k.keyed i) cell) (λ e.
       true≢false (sym (list_any_at (λ x. is_named k used x cell) k.keyed i no_key less e) ∙ (compared.unmarked cell at).1))) reads);
 }

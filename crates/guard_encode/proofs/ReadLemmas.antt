@@ -27,7 +27,7 @@ use Rattle.free_levels.specs.Values.{is_in, Ignores, IgnoresAll}
 use Rattle.free_levels.proofs.StageLemmas.{never_true}
 use Rattle.free_levels.proofs.ValueLemmas.{ignores-all, or-by_left, or-by_right}
 use Rattle.keyed_levels.specs.declared.keyed.Keyed.{Keyed}
-use Rattle.keyed_levels.specs.Keyed.{KeyedWorlds, AreKeyed, Lawful, Tells, comparison, key_at, no_key, world_at}
+use Rattle.keyed_levels.specs.Keyed.{AreKeyed, KeyedWorlds, Lawful, Tells, comparison, key_at, no_key, phrases_of, world_at}
 use Rattle.keyed_levels.specs.Laws.{EachWorldIsSpelledLawfully, SpelledLawfully}
 use Rattle.settled_worlds.specs.Steps.{compares}
 use Rattle.settled_worlds.proofs.ReadLemmas.{same_comparison}
@@ -124,10 +124,10 @@ values_for k given w = spelled_world k.base.spec k.slots w (λ level. is_key k.k
 -- they spell the world, and each key has the truth of its comparison
 record SpellKeyed (k : KeyedWorlds) (w : World) (values : ℕ → Bool) : Type 0 where
   spells : world_at k values ≡ w
-  of_key : (i : ℕ) → i < length k.keyed → values (key_at k.keyed i).level ≡ comparison w (slice_get k.base.phrases (key_at k.keyed i).phrase)
+  of_key : (i : ℕ) → i < length k.keyed → values (key_at k.keyed i).level ≡ comparison w (slice_get (phrases_of k) (key_at k.keyed i).phrase)
 
 lawful_for : (k : KeyedWorlds) (w : World) (values : ℕ → Bool) → SpellKeyed k w values → Lawful k values
-lawful_for k w values h = λ i less. h.of_key i less ∙ ap (λ v. comparison v (slice_get k.base.phrases (key_at k.keyed i).phrase)) (sym h.spells)
+lawful_for k w values h = λ i less. h.of_key i less ∙ ap (λ v. comparison v (slice_get (phrases_of k) (key_at k.keyed i).phrase)) (sym h.spells)
 
 own_key : (keyed : List Keyed) (i : ℕ) → i < length keyed → is_key keyed (key_at keyed i).level ≡ true
 unfolding is_key
@@ -141,7 +141,7 @@ spell_keyed each stay k are w is s = record {
       stay k.base.spec k.slots w (λ level. is_key k.keyed level && s.values level) (key_at k.keyed i).level (are.free i less)
       ∙ ap (λ b. b && s.values (key_at k.keyed i).level) (own_key k.keyed i less)
       ∙ s.lawful i less
-      ∙ ap (λ v. comparison v (slice_get k.base.phrases (key_at k.keyed i).phrase)) s.spells;
+      ∙ ap (λ v. comparison v (slice_get (phrases_of k) (key_at k.keyed i).phrase)) s.spells;
 }
 
 -- each world is spelled in one way by some lawful values
@@ -170,7 +170,7 @@ found (x ∷ xs) level e = by (x.level == level) refl (found xs level) e
 record SameAt (k : KeyedWorlds) (v w : World) (level : ℕ) : Type 0 where
   of_part : (p weight : ℕ) → slice_get k.slots level ≡ Some (Part p weight) → part_number k.base.spec v p ≡ part_number k.base.spec w p
   of_key : (i : ℕ) → i < length k.keyed → (key_at k.keyed i).level ≡ level
-      → comparison v (slice_get k.base.phrases (key_at k.keyed i).phrase) ≡ comparison w (slice_get k.base.phrases (key_at k.keyed i).phrase)
+      → comparison v (slice_get (phrases_of k) (key_at k.keyed i).phrase) ≡ comparison w (slice_get (phrases_of k) (key_at k.keyed i).phrase)
 
 same_value : FreeLevelsStay → (k : KeyedWorlds) (v w : World) (g h : ℕ → Bool) (level : ℕ) → SpellKeyed k v (values_for k g v) → SpellKeyed k w (values_for k h w) → SameAt k v w level
     → values_for k g v level ≡ values_for k h w level
@@ -288,20 +288,20 @@ choice_ignored each stay lawfully d k f component truth are told ignores v w is_
     told_same each stay lawfully d k f truth are told (part_levels k.slots component) ignores v w is_v is_w
     (λ level out. record {
       of_part = λ p weight at. part_of_choice k.base.spec component p v w differ (other_part k.slots component level p weight out at);
-      of_key = λ i less own. same_cells v w (slice_get k.base.phrases (key_at k.keyed i).phrase) differ.cells;
+      of_key = λ i less own. same_cells v w (slice_get (phrases_of k) (key_at k.keyed i).phrase) differ.cells;
     })
 
 -- Nor on a cell of whose levels it depends on none, where it depends on the level of no comparison that names the cell.
 pub cell_ignored : EachWorldIsSpelled → FreeLevelsStay → EachWorldIsSpelledLawfully → (d : Diagram) (k : KeyedWorlds) (f cell : ℕ) (truth : World → Bool) → AreKeyed k → Tells d k truth f
     → IgnoresAll (meaning d f) (part_levels k.slots (cell_part k.base.spec cell))
-    → ((i : ℕ) → i < length k.keyed → compares cell (slice_get k.base.phrases (key_at k.keyed i).phrase) ≡ true → Ignores (meaning d f) (key_at k.keyed i).level)
+    → ((i : ℕ) → i < length k.keyed → compares cell (slice_get (phrases_of k) (key_at k.keyed i).phrase) ≡ true → Ignores (meaning d f) (key_at k.keyed i).level)
     → (v w : World) → IsWorld k.base.spec v → IsWorld k.base.spec w → DifferInCell k.base.spec cell v w → truth v ≡ truth w
 cell_ignored each stay lawfully d k f cell truth are told ignores keys v w is_v is_w differ =
     told_same each stay lawfully d k f truth are told levels (ignores_keys (meaning d f) own reads k.keyed ignores keys) v w is_v is_w
     (λ level out. record {
       of_part = λ p weight at. part_of_cell k.base.spec cell p v w differ
           (other_part k.slots (cell_part k.base.spec cell) level p weight (never_true (is_in own level) (λ e. true≢false (sym (in_levels own reads k.keyed level e) ∙ out))) at);
-      of_key = λ i less is. same_comparison cell v w (slice_get k.base.phrases (key_at k.keyed i).phrase) differ.cells
+      of_key = λ i less is. same_comparison cell v w (slice_get (phrases_of k) (key_at k.keyed i).phrase) differ.cells
           (never_true (reads (key_at k.keyed i)) (λ e. true≢false (sym (in_keys own reads k.keyed i less e) ∙ ap (is_in levels) is ∙ out)));
     })
   where
@@ -309,7 +309,7 @@ cell_ignored each stay lawfully d k f cell truth are told ignores keys v w is_v 
     own = part_levels k.slots (cell_part k.base.spec cell)
 
     reads : Keyed → Bool
-    reads x = compares cell (slice_get k.base.phrases x.phrase)
+    reads x = compares cell (slice_get (phrases_of k) x.phrase)
 
     levels : List ℕ
     levels = keys_and own reads k.keyed

@@ -12,14 +12,15 @@ use Rattle.world_levels.specs.Spelling.{WorldLevels}
 use Rattle.phrase_diagrams.specs.Tells as exact
 use Rattle.phrase_diagrams.specs.Diagrams.{truths_at}
 use Rattle.elaborate.specs.Machine.{GroundMachine}
-use Rattle.keyed_levels.specs.Keyed.{KeyedWorlds, Lawful, world_at}
+use Rattle.keyed_levels.specs.Keyed.{KeyedWorlds, world_at}
 use Rattle.keyed_levels.specs.Keyed as keyed
 use Rattle.bdd_core.proofs.StepLemmas.{keeps_trans}
+use Rattle.keyed_levels.proofs.Bounds.{lawful_before}
 use Rattle.keyed_levels.proofs.Lawful.{tells_on}
 use Rattle.guard_encode.specs.Phrases.{ArePhrases}
 use Rattle.settled_worlds.specs.Settled.{AreExact, IsSettled}
 use Rattle.settled_worlds.proofs.ExactLemmas.{exact_on}
-use Rattle.guard_encode.specs.Encoding.{AreEncoded, Encoding, Keeps, Made, Tells, encoding_of, worlds_of}
+use Rattle.guard_encode.specs.Encoding.{AreEncoded, Encoding, Keeps, Made, Tells, encoding_of, unbounded_of, worlds_of}
 use Rattle.guard_encode.proofs.Telling.{exact_tells, truths_stay, refs_stay}
 use Rattle.guard_encode.proofs.EncoderLemmas.{active_stay, all_truths}
 
@@ -38,8 +39,9 @@ settled_stay m k old new made exact keeps are_exact are = record {
   stored = record {
     levels = are.stored.levels;
     same_levels = keeps.same_levels ∙ are.stored.same_levels;
-    active_are = active_stay old new (worlds_of (encoding_of m k old)) made.active keeps are.stored.active_are;
-    phrases_are = phrases_stay old new (worlds_of (encoding_of m k old)) (length m.base.phrases) made.phrases keeps are.stored.phrases_are;
+    first = are.stored.first;
+    active_are = active_stay old new (unbounded_of (encoding_of m k old)) made.active keeps are.stored.active_are;
+    phrases_are = phrases_stay old new (unbounded_of (encoding_of m k old)) (length m.base.phrases) made.phrases keeps are.stored.phrases_are;
     exact_are = subst (λ (g : Grounded). AreExact new (record k { base = g }) exact) are.same are_exact;
   };
 }
@@ -100,7 +102,8 @@ guard_tells m k old new made diagrams guard r are is h = record {
   means = λ v lawful.
       h.means v
       ∙ ap (λ ds. guard_truth (truths_at old ds v) guard) is
-      ∙ ap (λ ts. guard_truth ts guard) (all_truths old (worlds_of (encoding_of m k old)) made.phrases are.stored.phrases_are v lawful);
+      ∙ ap (λ ts. guard_truth ts guard) (all_truths old (unbounded_of (encoding_of m k old)) made.phrases are.stored.phrases_are v
+      (lawful_before (unbounded_of (encoding_of m k old)) (worlds_of (encoding_of m k old)) are.stored.first v lawful));
 }
 
 -- what is equally true is told
@@ -113,13 +116,14 @@ told_as e one other r same told = record {
 -- what an encoder told it still tells
 pub told_on : (old new : Encoding) (truth : World → Bool) (r : ℕ) → Keeps old new → Tells old truth r → Tells new truth r
 told_on old new truth r keeps told =
-    subst (λ (k : KeyedWorlds). keyed.Tells new.diagram k truth r) (λ i. record { base = (sym keeps.machine i).base; slots = sym keeps.slots i; keyed = sym keeps.keyed i })
+    subst (λ (k : KeyedWorlds). keyed.Tells new.diagram k truth r) (λ i. record { base = (sym keeps.machine i).base; beside = sym keeps.beside i; slots = sym keeps.slots i; keyed = sym keeps.keyed i })
     (tells_on old.diagram new.diagram (worlds_of old) truth r keeps.diagram told)
 
 -- one call after another
 pub keeps_on : (a b c : Encoding) → Keeps a b → Keeps b c → Keeps a c
 keeps_on a b c ab bc = record {
   machine = bc.machine ∙ ab.machine;
+  beside = bc.beside ∙ ab.beside;
   slots = bc.slots ∙ ab.slots;
   keyed = bc.keyed ∙ ab.keyed;
   diagram = keeps_trans a.diagram b.diagram c.diagram ab.diagram bc.diagram;

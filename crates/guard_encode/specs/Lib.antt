@@ -5,3 +5,4 @@ pub mod Reading
 pub mod Spelling
 pub mod Holding
 pub mod Opposites
+pub mod Bounds

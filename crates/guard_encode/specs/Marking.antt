@@ -11,7 +11,7 @@ use Rattle.spelled_numbers.specs.Bits.{bits_of}
 use Rattle.world_levels.specs.Spelling.{cell_part}
 use Rattle.free_levels.specs.Values.{Ignores, IgnoresAll}
 use Rattle.keyed_levels.specs.declared.keyed.Keyed.{Keyed}
-use Rattle.keyed_levels.specs.Keyed.{KeyedWorlds, key_at}
+use Rattle.keyed_levels.specs.Keyed.{KeyedWorlds, key_at, phrases_of}
 use Rattle.settled_worlds.specs.Steps.{compares, is_cell}
 use Rattle.guard_encode.specs.declared.reading.ReadParts.{ReadParts}
 
@@ -27,7 +27,7 @@ pub record AreRead (d : Diagram) (k : KeyedWorlds) (f : ℕ) (read : ReadParts) 
   pub of_cell : (cell : ℕ) → slice_get read.cells cell ≡ Some false
       → IgnoresAll (meaning d f) (part_levels k.slots (cell_part k.base.spec cell))
   pub of_key : (cell i : ℕ) → slice_get read.cells cell ≡ Some false → i < length k.keyed
-      → compares cell (slice_get k.base.phrases (key_at k.keyed i).phrase) ≡ true → Ignores (meaning d f) (key_at k.keyed i).level
+      → compares cell (slice_get (phrases_of k) (key_at k.keyed i).phrase) ≡ true → Ignores (meaning d f) (key_at k.keyed i).level
 
 -- whether the level of a term is used
 abbrev pub is_used_at : List Bool → Weighted → Bool
@@ -49,7 +49,7 @@ is_cell_at cell t = is_cell cell t.operand
 
 -- whether a key has a used level, and its comparison names a cell
 abbrev pub is_named : KeyedWorlds → List Bool → Keyed → ℕ → Bool
-is_named k used x cell = slice_index_or used x.level false && compares cell (slice_get k.base.phrases x.phrase)
+is_named k used x cell = slice_index_or used x.level false && compares cell (slice_get (phrases_of k) x.phrase)
 
 -- whether some key does
 abbrev pub is_compared : KeyedWorlds → List Bool → ℕ → Bool

@@ -26,6 +26,7 @@ impl<'m, 'a> Encoder<'m, 'a> {
         ensures is_ref { IfOk result (IsRef self.new.diagram) }
         ensures answer { IfOk result (λ r. (truth : World → Bool) → Tells self.old truth f
             → Tells self.new (λ w. not (truth w)) r) }
+        ensures values { IfOk result (Represents self.new.diagram (λ v. not (meaning self.old.diagram f v))) }
     {
         self.arena.not(f)
     }

@@ -1,16 +1,19 @@
-ghost use Rattle.std.specs.Prelude.{◌≡◌, ◌<◌, IfOk, length};
+ghost use Rattle.std.specs.Prelude.{◌≡◌, ◌<◌, All, IfOk, length};
+ghost use Rattle.rsml_meaning.specs.Cells.{cells};
 ghost use Rattle.rsml_meaning.specs.Instances.{states};
 ghost use Rattle.rsml_ground.specs.Rests.{GuardFits};
 ghost use Rattle.rsml_ground.specs.Truths.{guard_truth, is_active, truths_in};
-ghost use Rattle.guard_encode.specs.Encoding.{Keeps, Tells};
+ghost use Rattle.keyed_levels.specs.Keyed as keyed;
+ghost use Rattle.guard_encode.specs.Encoding.{HasNoBounds, Keeps, Tells};
 
 use crate::phrases::all_phrases;
+use crate::plan::{Plan, plan_of};
+use crate::reading::named_cells;
 use bdd_core::{Arena, Ref};
 use elaborate::Machine;
 use keyed_levels::KeyedLevels;
-use level_order::{first_alike, order};
 use phrase_diagrams::active_states;
-use rsml_base::NoMemory;
+use rsml_base::{List, NoMemory};
 use rsml_ground::GroundGuard;
 use settled_worlds::ExactKeys;
 use spelled_numbers::SumTable;
@@ -27,6 +30,8 @@ pub struct Encoder<'m, 'a> {
     pub(crate) exact: ExactKeys,
     pub(crate) active: Vec<Ref>,
     pub(crate) phrases: Vec<Ref>,
+    /// For each cell whether the comparison of a level names it, bounds left out.
+    pub(crate) named: List<bool>,
 }
 
 impl Drop for Encoder<'_, '_> {
@@ -39,6 +44,7 @@ impl Drop for Encoder<'_, '_> {
             exact: _,
             active: _,
             phrases: _,
+            named: _,
         } = self;
     }
 }
@@ -67,9 +73,35 @@ impl<'m, 'a> Encoder<'m, 'a> {
     pub fn new(alloc: Global, machine: &'m Machine<'a>) -> Result<Encoder<'m, 'a>, NoMemory>
         ensures { IfOk result (λ e. e.machine ≡ machine.now) }
     {
-        let alike = first_alike(alloc, machine.macros())?;
-        let order = order(alloc, machine, alike.as_slice())?;
-        let levels = KeyedLevels::new(alloc, machine.macros(), machine.worlds(), order.as_slice())?;
+        let plan = plan_of(alloc, machine)?;
+        Encoder::with(alloc, machine, plan, 0)
+    }
+
+    /// The same, by a plan: an order of the levels, what is like each phrase, and comparisons beside the phrases of the machine that
+    /// may have levels. So many levels are spare: bounds take them.
+    pub fn with(
+        alloc: Global,
+        machine: &'m Machine<'a>,
+        plan: Plan,
+        spare: u32,
+    ) -> Result<Encoder<'m, 'a>, NoMemory>
+        requires { All (keyed.PhraseFits (length (cells machine.now.base.spec))) plan.beside.items }
+        ensures machine { IfOk result (λ e. e.machine ≡ machine.now) }
+        ensures bounds { IfOk result HasNoBounds }
+    {
+        let Plan {
+            order,
+            alike,
+            beside,
+        } = plan;
+        let levels = KeyedLevels::new(
+            alloc,
+            machine.macros(),
+            machine.worlds(),
+            order.as_slice(),
+            beside,
+            spare,
+        )?;
         Encoder::over(alloc, machine, levels, alike.as_slice())
     }
 
@@ -80,8 +112,10 @@ impl<'m, 'a> Encoder<'m, 'a> {
         levels: KeyedLevels<'m, 'a>,
         alike: &[u32],
     ) -> Result<Encoder<'m, 'a>, NoMemory>
-        requires { levels.base ≡ machine.now.base }
-        ensures { IfOk result (λ e. e.machine ≡ machine.now) }
+        requires base { levels.base ≡ machine.now.base }
+        requires bounds { keyed.HasNoBounds levels }
+        ensures machine { IfOk result (λ e. e.machine ≡ machine.now) }
+        ensures bounds { IfOk result HasNoBounds }
     {
         machine.law();
         let exact = ExactKeys::new(alloc, levels.keys().len())?;
@@ -102,6 +136,7 @@ impl<'m, 'a> Encoder<'m, 'a> {
             active.as_slice(),
             alike,
         )?;
+        let named = named_cells(alloc, &levels)?;
         Ok(Encoder {
             machine,
             levels,
@@ -110,6 +145,7 @@ impl<'m, 'a> Encoder<'m, 'a> {
             exact,
             active,
             phrases,
+            named,
         })
     }
 

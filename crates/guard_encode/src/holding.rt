@@ -64,7 +64,7 @@ fn key_truth(levels: &KeyedLevels<'_, '_>, world: &World, level: u32) -> bool
     ensures { result ≡ spec.key_truth levels.now world.now level }
 {
     match key_of(levels.keys(), level) {
-        Some(key) => is_true(levels.macros(), world, key.phrase),
+        Some(key) => is_true(levels, world, key.phrase),
         None => false,
     }
 }

@@ -1,6 +1,7 @@
 //! Where states are active and guards are true, as decision diagrams over the worlds of a machine.
 #![tactic(auto)]
 
+mod bounds;
 mod cases;
 mod combine;
 mod comparing;
@@ -13,9 +14,11 @@ mod of_cell;
 mod opposites;
 mod phrase;
 mod phrases;
+mod plan;
 mod reading;
 mod spelling;
 mod test;
 
 pub use encoder::Encoder;
+pub use plan::{Plan, plan_of};
 pub use reading::ReadParts;

@@ -1,5 +1,5 @@
 //! What functions tell of one cell.
-ghost use Rattle.std.specs.Prelude.{◌≡◌, ◌<◌, ◌↔◌, ◌&&◌, Bool, false, IfOk, int_le, length, pos, slice_index_or};
+ghost use Rattle.std.specs.Prelude.{◌≡◌, ◌<◌, ◌↔◌, ◌&&◌, Bool, false, not, IfOk, int_le, length, pos, slice_index_or};
 ghost use Rattle.rsml_syntax.specs.declared.world.World.{World};
 ghost use Rattle.rsml_meaning.specs.Cells.{cells};
 ghost use Rattle.rsml_meaning.specs.Worlds.{IsWorld};
@@ -41,6 +41,20 @@ impl<'m, 'a> Encoder<'m, 'a> {
         let below = self.at_most(cell, number)?;
         let both = self.and(r, below)?;
         Ok(!self.is_false(both))
+    }
+
+    /// What is told of a cell, where its number is greater than this.
+    pub fn above(&mut self, r: Ref, cell: u32, number: i64) -> Result<Ref, NoMemory>
+        requires r_ref { IsRef self.old.diagram r }
+        requires cell { cell < length (cells self.old.machine.base.spec) }
+        ensures keeps { Keeps self.old self.new }
+        ensures is_ref { IfOk result (IsRef self.new.diagram) }
+        ensures answer { IfOk result (λ above. (truth : World → Bool) → IsOfCell self.old cell truth r
+            → IsOfCell self.new cell (λ w. truth w && not (int_le (slice_index_or w.cells cell (pos 0)) number)) above) }
+    {
+        let below = self.at_most(cell, number)?;
+        let higher = self.not(below)?;
+        self.and(r, higher)
     }
 
     /// `f` with the comparisons made exact that name none but the first so many cells. It finds the same worlds. Where these cells have

@@ -18,6 +18,7 @@ pub fn first_like(alike: &[u32], number: u32) -> u32 {
 }
 
 /// The place of the key of a phrase, where that is the opposite of a comparison and has a key.
+#[tactic(auto, using(keyed_levels::proofs::Bounds::first_phrase))]
 pub fn key_of_opposite(
     levels: &KeyedLevels<'_, '_>,
     phrase: u32,

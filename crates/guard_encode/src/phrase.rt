@@ -12,7 +12,7 @@ ghost use Rattle.bdd_core.specs.Diagram.{IsRef};
 ghost use Rattle.bdd_core.specs.Calls.{Keeps, Represents};
 ghost use Rattle.world_levels.specs.Spelling.{world_of};
 ghost use Rattle.phrase_diagrams.specs.Diagrams.{truths_at};
-ghost use Rattle.keyed_levels.specs.Keyed.{Tells};
+ghost use Rattle.keyed_levels.specs.Keyed.{Tells, phrases_of};
 ghost use Rattle.guard_encode.specs.Phrases.{AreActive, ArePhrases, TellsNext};
 
 use crate::cases::some_case;
@@ -151,7 +151,7 @@ fn of_comparison(
     right: &GroundSum,
 ) -> Result<Ref, NoMemory>
     requires room { arena.old.levels ≡ length levels.now.slots }
-    requires phrase { slice_get levels.now.base.phrases number ≡ Some (phrases.Compare left.now relation right.now) }
+    requires phrase { slice_get (phrases_of levels.now) number ≡ Some (phrases.Compare left.now relation right.now) }
     requires left { SumFits (length (all_cells levels.now.base.spec)) left.now }
     requires right { SumFits (length (all_cells levels.now.base.spec)) right.now }
     ensures keeps { Keeps arena.old arena.new }

@@ -7,7 +7,7 @@ ghost use Rattle.bdd_core.specs.Diagram.{IsRef};
 ghost use Rattle.guard_encode.specs.Marking as spec;
 ghost use Rattle.guard_encode.specs.Marking.{AreOfPart, AreRead, Marks};
 ghost use Rattle.guard_encode.specs.Reading.{IgnoresCell, IgnoresChoice};
-ghost use Rattle.keyed_levels.specs.Keyed.{key_at};
+ghost use Rattle.keyed_levels.specs.Keyed.{key_at, phrases_of};
 ghost use Rattle.settled_worlds.specs.Steps.{compares, is_cell};
 
 use crate::encoder::Encoder;
@@ -116,14 +116,29 @@ fn mark_key(levels: &KeyedLevels<'_, '_>, used: &[bool], place: usize, cells: &m
     if !is_used(used, key.level) {
         return;
     }
-    mark_phrase(levels.macros().phrase(key.phrase), cells);
+    mark_phrase(levels.phrase(key.phrase), cells);
+}
+
+/// For each cell whether the comparison of some key names it.
+pub(crate) fn named_cells(
+    alloc: Global,
+    levels: &KeyedLevels<'_, '_>,
+) -> Result<List<bool>, NoMemory> {
+    let mut cells = List::new(alloc);
+    for _cell in 0..levels.layout().cells() {
+        cells.push(false)?;
+    }
+    for place in 0..levels.keys().len() {
+        mark_phrase(levels.phrase(key(levels, place).phrase), &mut cells);
+    }
+    Ok(cells)
 }
 
 /// The key at a place.
 fn key(levels: &KeyedLevels<'_, '_>, place: usize) -> Keyed
     requires { place < length levels.now.keyed }
     ensures is { result ≡ key_at levels.now.keyed place }
-    ensures phrase { result.phrase < length levels.now.base.phrases }
+    ensures phrase { result.phrase < length (phrases_of levels.now) }
 {
     levels.keys()[place]
 }

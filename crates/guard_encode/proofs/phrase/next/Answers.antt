@@ -1,4 +1,4 @@
-use Rattle.std.proofs.Common.{◌≡◌, Some, length, sym, ◌∙◌, subst, slice_get, w64, to_z, of_z, rules, FitsSigned}
+use Rattle.std.proofs.Common.{◌≡◌, Some, length, sym, ap, ◌∙◌, subst, slice_get, w64, to_z, of_z, rules, FitsSigned}
 use Rattle.std.proofs.lemmas.Int.{to_z-of_z}
 use Rattle.std.proofs.lemmas.Option.{same_Some}
 use Rattle.std.proofs.lemmas.Result.{IfOk-weaker}
@@ -12,6 +12,7 @@ use Rattle.macros.proofs.Below.{defined_within, defined_fits}
 use Rattle.bdd_core.specs.Calls.{Represents}
 use Rattle.world_levels.specs.Spelling.{world_of}
 use Rattle.phrase_diagrams.specs.Diagrams.{truths_at}
+use Rattle.keyed_levels.proofs.Bounds.{first_phrase}
 use Rattle.guard_encode.proofs.NextLemmas.{state_next, function_next}
 use Rattle.guard_encode.proofs.phrase.next.Goals as goal
 
@@ -27,6 +28,13 @@ definition-requires-in-Function c =
     let ds = c.macros-macros.result.now.definitions in
     let many = length (cells c.macros-macros.result.now.spec) in
     defined_within ds many c.args.number c.in-Function.function (subst (λ (p : GroundPhrase). RestsOn ds many c.args.number p) c.in-Function.is c.phrase.ensures.rests)
+
+pub of_comparison-requires-clause-phrase : goal.of_comparison-requires-clause-phrase
+of_comparison-requires-clause-phrase c =
+    let k = c.args.levels.now in
+    let here : slice_get k.base.phrases c.args.number ≡ Some c.phrase.result.now =
+    subst (λ (g : spec.Grounded). slice_get g.phrases c.args.number ≡ Some c.phrase.result.now) c.macros-macros.ensures c.phrase.ensures.is in
+    first_phrase k.base.phrases k.beside.phrases c.args.number _ (here ∙ ap Some c.in-Compare.is)
 
 pub returns-in-In-clause-answer : goal.returns-in-In-clause-answer
 returns-in-In-clause-answer c = λ p at.

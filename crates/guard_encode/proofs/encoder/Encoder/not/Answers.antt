@@ -1,4 +1,4 @@
-use Rattle.std.proofs.Common.{not, sym, subst}
+use Rattle.std.proofs.Common.{not, sym, subst, IfOk}
 use Rattle.std.proofs.lemmas.Result.{IfOk-weaker}
 use Rattle.bdd_core.specs.Diagram.{meaning}
 use Rattle.bdd_core.specs.Calls.{Represents}
@@ -21,3 +21,7 @@ pub returns-clause-is_ref : goal.returns-clause-is_ref
 returns-clause-is_ref c =
     let old = c.self.inside.arena in
     IfOk-weaker c.not.result (Represents c.not.new.self (λ v. not (meaning old c.args.f v))) _ (λ r h. h.is_ref) c.not.ensures.answer
+
+pub returns-clause-values : goal.returns-clause-values
+returns-clause-values c =
+    subst (λ (e : Encoding). IfOk c.not.result (Represents c.not.new.self (λ v. not (meaning e.diagram c.args.f v)))) c.self.view_is c.not.ensures.answer
