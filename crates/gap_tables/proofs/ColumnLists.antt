@@ -6,9 +6,9 @@ use Rattle.rsml_syntax.specs.declared.world.World.{World}
 use Rattle.rsml_meaning.specs.Findings.{IsLeast}
 use Rattle.rsml_meaning.specs.Worlds.{IsWorld}
 use Rattle.guard_encode.specs.declared.reading.ReadParts.{ReadParts}
-use Rattle.guard_encode.specs.Encoding.{Encoding, Keeps, Tells, TellsExactly}
+use Rattle.guard_encode.specs.Encoding.{Encoding, Grows, Keeps, Tells, TellsExactly}
 use Rattle.guard_encode.specs.Reading.{IgnoresCell, IgnoresChoice}
-use Rattle.guard_encode.proofs.StepLemmas.{keeps_on}
+use Rattle.guard_encode.proofs.BoundLemmas.{grows_on, keeps_grows}
 use Rattle.group_verdicts.proofs.Keeping.{on_new, on_old}
 use Rattle.group_verdicts.proofs.Parts.{many_cells, many_choices}
 use Rattle.world_columns.specs.declared.column.Span.{Span}
@@ -18,6 +18,7 @@ use Rattle.world_columns.specs.Gaps.{AreGaps, EndsWith, IsColumn, none_left, som
 use Rattle.world_columns.proofs.Inside.{alone_lies}
 use Rattle.world_columns.proofs.Passing.{lying_is_passing}
 use Rattle.gap_tables.specs.Widening.{ChildGoesOn, ChildrenFound, ColumnFound, FindsLater, IsBegun, IsNextColumn, IsOfParts, SpanGoesOn, SpansFound, TellsAll, TellsOf, children_alone}
+use Rattle.gap_tables.proofs.Growing.{grown_new, grown_old, later_grows, tells_of_grows}
 use Rattle.gap_tables.proofs.Questions.{none_so}
 use Rattle.gap_tables.proofs.Steps.{of_parts, span_as, widest_as}
 use Rattle.gap_tables.proofs.PartAnswers.{later_on, tells_of_on}
@@ -47,18 +48,18 @@ children_from a b d read w others cs r keeps found = λ set of is other.
 pub spans_none : (a : Encoding) (read : ReadParts) (w : World) (others : ℕ) (cs : List (Option ℕ)) (inside : ℕ) → SpansFound a a read w others cs inside [] inside
 spans_none a read w others cs inside = λ set of other begun. begun
 
-pub spans_more : (a b d : Encoding) (read : ReadParts) (w : World) (others : ℕ) (cs : List (Option ℕ)) (xs : List Span) (cell after first inside : ℕ) (x : Span) (r : ℕ) → Keeps a b → length cs ≡ length w.choices → length xs ≡ cell
+pub spans_more : (a b d : Encoding) (read : ReadParts) (w : World) (others : ℕ) (cs : List (Option ℕ)) (xs : List Span) (cell after first inside : ℕ) (x : Span) (r : ℕ) → Grows a b → length cs ≡ length w.choices → length xs ≡ cell
     → FindsLater a read w (length cs) (suc cell) after → SpansFound a b read w others cs first xs inside → SpanGoesOn b d read w cell after others inside x r → SpansFound a d read w others cs first (xs ++ x ∷ []) r
 spans_more a b d read w others cs xs cell after first inside x r keeps all many later found goes = λ set of other begun.
-    goes set cs xs (on_new (λ s. IsOfParts s read set) a b keeps of) all many (later_on a b read w (length cs) (suc cell) after keeps later) (tells_of_on a b (λ v. not (set v)) others keeps other) (found set of other begun)
+    goes set cs xs (grown_new (λ s. IsOfParts s read set) a b keeps of) all many (later_grows a b read w (length cs) (suc cell) after keeps later) (tells_of_grows a b (λ v. not (set v)) others keeps other) (found set of other begun)
 
 -- all its parts
-pub column_found : (a b d : Encoding) (read : ReadParts) (w : World) (others : ℕ) (cs : List (Option ℕ)) (xs : List Span) (first r : ℕ) → Keeps a b → Keeps b d → IsWorld a.machine.base.spec w
+pub column_found : (a b d : Encoding) (read : ReadParts) (w : World) (others : ℕ) (cs : List (Option ℕ)) (xs : List Span) (first r : ℕ) → Keeps a b → Grows b d → IsWorld a.machine.base.spec w
     → length cs ≡ length w.choices → length xs ≡ length w.cells → ChildrenFound a b read w others cs first → SpansFound b d read w others cs first xs r → ColumnFound a d read w others (of_parts cs xs) r
 column_found a b d read w others cs xs first r ab bd world children spans found then_found = λ set of is other.
     let begun = then_found set (on_new (λ s. IsOfParts s read set) a b ab of) (tells_of_on a b (λ v. not (set v)) others ab other) (found set of is other) in
-    let here : IsBegun a.machine.base.spec read set w (of_parts cs xs) = on_old (λ s. IsBegun s read set w (of_parts cs xs)) a b ab (on_old (λ s. IsBegun s read set w (of_parts cs xs)) b d bd begun.0) in
-    let there : IsWorld d.machine.base.spec w = on_new (λ s. IsWorld s w) b d bd (on_new (λ s. IsWorld s w) a b ab world) in (
+    let here : IsBegun a.machine.base.spec read set w (of_parts cs xs) = on_old (λ s. IsBegun s read set w (of_parts cs xs)) a b ab (grown_old (λ s. IsBegun s read set w (of_parts cs xs)) b d bd begun.0) in
+    let there : IsWorld d.machine.base.spec w = grown_new (λ s. IsWorld s w) b d bd (on_new (λ s. IsWorld s w) a b ab world) in (
       record { children = children; spans = spans; child = here.child; numbers = here.numbers },
       record {
         told = begun.1.told;
@@ -137,31 +138,31 @@ ColumnsSoFar old new f most count cs rest = (truth : World → Bool) → Tells o
 pub so_far_none : (a b : Encoding) (f most rest : ℕ) → ((truth : World → Bool) → Tells a truth f → TellsExactly b truth rest) → ColumnsSoFar a b f most 0 [] rest
 so_far_none a b f most rest exact = λ truth told. (record { told = truth; tells = exact truth told; same = λ v is. refl }, first_none a.machine.base.spec truth most)
 
-pub so_far_more : (a b d : Encoding) (f most count : ℕ) (cs : List Column) (rest : ℕ) (c : Column) (left : ℕ) → Keeps a b → ColumnsSoFar a b f most count cs rest
+pub so_far_more : (a b d : Encoding) (f most count : ℕ) (cs : List Column) (rest : ℕ) (c : Column) (left : ℕ) → Grows a b → ColumnsSoFar a b f most count cs rest
     → ((set : World → Bool) → TellsAll b set rest → IsNextColumn b d set (Some (c, left))) → ColumnsSoFar a d f most (count + 1) (cs ++ c ∷ []) left
 so_far_more a b d f most count cs rest c left keeps before next = λ truth told.
     let h = before truth told in
     let n = next (left_of truth cs) h.0 in
     let s = a.machine.base.spec in (
       subst (λ set. TellsAll d set left) (sym (left_more truth cs c)) n.1,
-      first_more s truth most count cs c n.0.0 (on_old (λ s. IsLeast (λ v. IsWorld s v × IsTrue (left_of truth cs v)) n.0.0) a b keeps n.0.1)
-          (on_old (λ s. IsColumn s (left_of truth cs) n.0.0 c) a b keeps n.0.2) h.1,
+      first_more s truth most count cs c n.0.0 (grown_old (λ s. IsLeast (λ v. IsWorld s v × IsTrue (left_of truth cs v)) n.0.0) a b keeps n.0.1)
+          (grown_old (λ s. IsColumn s (left_of truth cs) n.0.0 c) a b keeps n.0.2) h.1,
     )
 
-pub columns_none : (a b d : Encoding) (f most count : ℕ) (cs : List Column) (rest : ℕ) → Keeps a b → Keeps b d → count ≤ most → ColumnsSoFar a b f most count cs rest
+pub columns_none : (a b d : Encoding) (f most count : ℕ) (cs : List Column) (rest : ℕ) → Grows a b → Grows b d → count ≤ most → ColumnsSoFar a b f most count cs rest
     → ((set : World → Bool) → TellsAll b set rest → IsNextColumn b d set None) → (truth : World → Bool) → Tells a truth f → AreGaps d.machine.base.spec truth most cs false
 columns_none a b d f most count cs rest ab bd within before next truth told =
     let h = before truth told in
-    let none = on_old (λ s. (w : World) → IsWorld s w → IsTrue (left_of truth cs w) → ⊥) a b ab (next (left_of truth cs) h.0) in
-    on_new (λ s. AreGaps s truth most cs false) b d bd (on_new (λ s. AreGaps s truth most cs false) a b ab
+    let none = grown_old (λ s. (w : World) → IsWorld s w → IsTrue (left_of truth cs w) → ⊥) a b ab (next (left_of truth cs) h.0) in
+    grown_new (λ s. AreGaps s truth most cs false) b d bd (grown_new (λ s. AreGaps s truth most cs false) a b ab
     (gaps_end a.machine.base.spec truth most count cs false (most - count) (omega (arith, within)) (none_left none) h.1))
 
-pub columns_end : (a b d : Encoding) (f most count : ℕ) (cs : List Column) (rest : ℕ) (more : Bool) → Keeps a b → Keeps b d → count ≡ most → ColumnsSoFar a b f most count cs rest
+pub columns_end : (a b d : Encoding) (f most count : ℕ) (cs : List Column) (rest : ℕ) (more : Bool) → Grows a b → Keeps b d → count ≡ most → ColumnsSoFar a b f most count cs rest
     → ((set : World → Bool) → TellsAll b set rest → EndsWith b.machine.base.spec set 0 more) → (truth : World → Bool) → Tells a truth f → AreGaps d.machine.base.spec truth most cs more
 columns_end a b d f most count cs rest more ab bd all before ends truth told =
     let h = before truth told in
-    let end = on_old (λ s. EndsWith s (left_of truth cs) 0 more) a b ab (ends (left_of truth cs) h.0) in
-    on_new (λ s. AreGaps s truth most cs more) b d bd (on_new (λ s. AreGaps s truth most cs more) a b ab
+    let end = grown_old (λ s. EndsWith s (left_of truth cs) 0 more) a b ab (ends (left_of truth cs) h.0) in
+    on_new (λ s. AreGaps s truth most cs more) b d bd (grown_new (λ s. AreGaps s truth most cs more) a b ab
     (gaps_end a.machine.base.spec truth most count cs more 0 (omega (arith, all)) end h.1))
 
 -- The next column.
@@ -170,7 +171,7 @@ pub none_next : (a b : Encoding) (set : World → Bool) (r : ℕ) → Keeps a b 
 none_next a b set r keeps all none = λ w is so.
     true≢false (sym so ∙ sym (all.same w is) ∙ none w (on_new (λ s. IsWorld s w) a b keeps is))
 
-pub next_found : (a b e d : Encoding) (set : World → Bool) (r : ℕ) (w : World) (c : Column) (inside left : ℕ) → Keeps a b → Keeps b e → Keeps e d → (all : TellsAll a set r)
+pub next_found : (a b e d : Encoding) (set : World → Bool) (r : ℕ) (w : World) (c : Column) (inside left : ℕ) → Keeps a b → Grows b e → Keeps e d → (all : TellsAll a set r)
     → IsLeast (λ v. IsWorld b.machine.base.spec v × IsTrue (all.told v)) w → (column : IsColumn b.machine.base.spec all.told w c × TellsOf e (lies_in c) inside)
     → TellsExactly d (λ v. all.told v && not (column.1.told v)) left → IsNextColumn a d set (Some (c, left))
 next_found a b e d set r w c inside left ab be ed all least column told = (
@@ -183,7 +184,7 @@ next_found a b e d set r w c inside left ab be ed all least column told = (
     told = λ v. all.told v && not (column.1.told v);
     tells = told;
     same = λ v is. λ i.
-        on_new (λ t. (v : World) → IsWorld t v → all.told v ≡ set v) b d (keeps_on b e d be ed) (on_new (λ t. (v : World) → IsWorld t v → all.told v ≡ set v) a b ab all.same) v is i
+        grown_new (λ t. (v : World) → IsWorld t v → all.told v ≡ set v) b d (grows_on b e d be (keeps_grows e d ed)) (on_new (λ t. (v : World) → IsWorld t v → all.told v ≡ set v) a b ab all.same) v is i
         && not (on_new (λ t. (v : World) → IsWorld t v → column.1.told v ≡ lies_in c v) e d ed column.1.same v is i);
   },
 )

@@ -5,8 +5,8 @@ use Rattle.std.proofs.lemmas.Bool.{and_from}
 use Rattle.std.proofs.lemmas.Int.{ints}
 use Rattle.rsml_syntax.specs.declared.syntax.Spec.{Spec}
 use Rattle.rsml_syntax.specs.declared.world.World.{World}
-use Rattle.guard_encode.specs.Encoding.{Encoding, Finds, Keeps}
-use Rattle.guard_encode.proofs.FindLemmas.{found_on}
+use Rattle.guard_encode.specs.Encoding.{Encoding, IsOfCell, Keeps}
+use Rattle.guard_encode.proofs.CellLemmas.{of_cell_on}
 use Rattle.group_verdicts.proofs.Keeping.{on_new, on_old}
 use Rattle.world_columns.specs.declared.column.Span.{Span}
 use Rattle.world_columns.specs.Columns.{in_span, span}
@@ -150,11 +150,11 @@ none_from s truth cell high m n less = none_narrower s truth cell (span m high) 
 
 -- what tells whether no world has a number of a span
 abbrev pub Asked : Encoding → ℕ → ℕ → Span → Bool → Type 0
-Asked e cell bad x is = (truth : World → Bool) → Finds e truth bad → IsTrue is ↔ NoneWithin e.machine.base.spec truth cell x
+Asked e cell r x is = (truth : World → Bool) → IsOfCell e cell truth r → IsTrue is ↔ NoneWithin e.machine.base.spec truth cell x
 
-asked_on : (a b : Encoding) (cell bad : ℕ) (x : Span) (is : Bool) → Keeps a b → Asked b cell bad x is → Asked a cell bad x is
-asked_on a b cell bad x is keeps asked = λ truth found.
-    let q = asked truth (found_on a b truth bad keeps found) in
+asked_on : (a b : Encoding) (cell r : ℕ) (x : Span) (is : Bool) → Keeps a b → Asked b cell r x is → Asked a cell r x is
+asked_on a b cell r x is keeps asked = λ truth of.
+    let q = asked truth (of_cell_on a b cell truth r keeps of) in
     (λ so. on_old (λ s. NoneWithin s truth cell x) a b keeps (q.0 so), λ none. q.1 (on_new (λ s. NoneWithin s truth cell x) a b keeps none))
 
 never_so : (b : Bool) → b ≡ false → b ≡ true → ⊥
@@ -162,40 +162,40 @@ never_so b e f = true≢false (sym f ∙ e)
 
 -- The halves.
 
-pub first_high : (e : Encoding) (cell bad : ℕ) (own high : ℤ) → own ≤ℤ high → HighestEnd e cell bad own high own high
-first_high e cell bad own high order = λ truth found none. highest_first (λ n. NoneWithin e.machine.base.spec truth cell (span own n)) own high order none
+pub first_high : (e : Encoding) (cell r : ℕ) (own high : ℤ) → own ≤ℤ high → HighestEnd e cell r own high own high
+first_high e cell r own high order = λ truth of none. highest_first (λ n. NoneWithin e.machine.base.spec truth cell (span own n)) own high order none
 
-pub higher_half : (a b : Encoding) (cell bad : ℕ) (own high from middle to : ℤ) (is : Bool) → Keeps a b → from <ℤ middle → middle ≤ℤ to → Asked b cell bad (span own middle) is → is ≡ true
-    → HighestEnd a cell bad own high from to → HighestEnd a cell bad own high middle to
-higher_half a b cell bad own high from middle to is keeps less most asked so before = λ truth found none.
+pub higher_half : (a b : Encoding) (cell r : ℕ) (own high from middle to : ℤ) (is : Bool) → Keeps a b → from <ℤ middle → middle ≤ℤ to → Asked b cell r (span own middle) is → is ≡ true
+    → HighestEnd a cell r own high from to → HighestEnd a cell r own high middle to
+higher_half a b cell r own high from middle to is keeps less most asked so before = λ truth of none.
     highest_up (λ n. NoneWithin a.machine.base.spec truth cell (span own n)) own high from middle to less most
-    ((asked_on a b cell bad (span own middle) is keeps asked truth found).0 so) (before truth found none)
+    ((asked_on a b cell r (span own middle) is keeps asked truth of).0 so) (before truth of none)
 
-pub not_higher : (a b : Encoding) (cell bad : ℕ) (own high from middle to : ℤ) (is : Bool) → Keeps a b → from <ℤ middle → middle ≤ℤ to → Asked b cell bad (span own middle) is → is ≡ false
-    → HighestEnd a cell bad own high from to → HighestEnd a cell bad own high from (middle -ℤ pos 1)
-not_higher a b cell bad own high from middle to is keeps less most asked not before = λ truth found none.
+pub not_higher : (a b : Encoding) (cell r : ℕ) (own high from middle to : ℤ) (is : Bool) → Keeps a b → from <ℤ middle → middle ≤ℤ to → Asked b cell r (span own middle) is → is ≡ false
+    → HighestEnd a cell r own high from to → HighestEnd a cell r own high from (middle -ℤ pos 1)
+not_higher a b cell r own high from middle to is keeps less most asked not before = λ truth of none.
     highest_down (λ n. NoneWithin a.machine.base.spec truth cell (span own n)) own high from middle to (none_up_to a.machine.base.spec truth cell own) less most
-    (λ h. never_so is not ((asked_on a b cell bad (span own middle) is keeps asked truth found).1 h)) (before truth found none)
+    (λ h. never_so is not ((asked_on a b cell r (span own middle) is keeps asked truth of).1 h)) (before truth of none)
 
-pub last_high : (e : Encoding) (cell bad : ℕ) (own high from to : ℤ) → (from <ℤ to → ⊥) → HighestEnd e cell bad own high from to → HighestEnd e cell bad own high from from
-last_high e cell bad own high from to met before = λ truth found none.
-    highest_met (λ n. NoneWithin e.machine.base.spec truth cell (span own n)) own high from to met (before truth found none)
+pub last_high : (e : Encoding) (cell r : ℕ) (own high from to : ℤ) → (from <ℤ to → ⊥) → HighestEnd e cell r own high from to → HighestEnd e cell r own high from from
+last_high e cell r own high from to met before = λ truth of none.
+    highest_met (λ n. NoneWithin e.machine.base.spec truth cell (span own n)) own high from to met (before truth of none)
 
-pub first_low : (e : Encoding) (cell bad : ℕ) (low own high : ℤ) → low ≤ℤ own → LowestEnd e cell bad low own high low own
-first_low e cell bad low own high order = λ truth found none. lowest_first (λ n. NoneWithin e.machine.base.spec truth cell (span n high)) low own order none
+pub first_low : (e : Encoding) (cell r : ℕ) (low own high : ℤ) → low ≤ℤ own → LowestEnd e cell r low own high low own
+first_low e cell r low own high order = λ truth of none. lowest_first (λ n. NoneWithin e.machine.base.spec truth cell (span n high)) low own order none
 
-pub lower_half : (a b : Encoding) (cell bad : ℕ) (low own high from middle to : ℤ) (is : Bool) → Keeps a b → from ≤ℤ middle → middle <ℤ to → Asked b cell bad (span middle high) is → is ≡ true
-    → LowestEnd a cell bad low own high from to → LowestEnd a cell bad low own high from middle
-lower_half a b cell bad low own high from middle to is keeps least less asked so before = λ truth found none.
+pub lower_half : (a b : Encoding) (cell r : ℕ) (low own high from middle to : ℤ) (is : Bool) → Keeps a b → from ≤ℤ middle → middle <ℤ to → Asked b cell r (span middle high) is → is ≡ true
+    → LowestEnd a cell r low own high from to → LowestEnd a cell r low own high from middle
+lower_half a b cell r low own high from middle to is keeps least less asked so before = λ truth of none.
     lowest_down (λ n. NoneWithin a.machine.base.spec truth cell (span n high)) low own from middle to least less
-    ((asked_on a b cell bad (span middle high) is keeps asked truth found).0 so) (before truth found none)
+    ((asked_on a b cell r (span middle high) is keeps asked truth of).0 so) (before truth of none)
 
-pub not_lower : (a b : Encoding) (cell bad : ℕ) (low own high from middle to : ℤ) (is : Bool) → Keeps a b → from ≤ℤ middle → middle <ℤ to → Asked b cell bad (span middle high) is → is ≡ false
-    → LowestEnd a cell bad low own high from to → LowestEnd a cell bad low own high (middle +ℤ pos 1) to
-not_lower a b cell bad low own high from middle to is keeps least less asked not before = λ truth found none.
+pub not_lower : (a b : Encoding) (cell r : ℕ) (low own high from middle to : ℤ) (is : Bool) → Keeps a b → from ≤ℤ middle → middle <ℤ to → Asked b cell r (span middle high) is → is ≡ false
+    → LowestEnd a cell r low own high from to → LowestEnd a cell r low own high (middle +ℤ pos 1) to
+not_lower a b cell r low own high from middle to is keeps least less asked not before = λ truth of none.
     lowest_up (λ n. NoneWithin a.machine.base.spec truth cell (span n high)) low own from middle to (none_from a.machine.base.spec truth cell high) least less
-    (λ h. never_so is not ((asked_on a b cell bad (span middle high) is keeps asked truth found).1 h)) (before truth found none)
+    (λ h. never_so is not ((asked_on a b cell r (span middle high) is keeps asked truth of).1 h)) (before truth of none)
 
-pub last_low : (e : Encoding) (cell bad : ℕ) (low own high from to : ℤ) → (from <ℤ to → ⊥) → LowestEnd e cell bad low own high from to → LowestEnd e cell bad low own high to to
-last_low e cell bad low own high from to met before = λ truth found none.
-    lowest_met (λ n. NoneWithin e.machine.base.spec truth cell (span n high)) low own from to met (before truth found none)
+pub last_low : (e : Encoding) (cell r : ℕ) (low own high from to : ℤ) → (from <ℤ to → ⊥) → LowestEnd e cell r low own high from to → LowestEnd e cell r low own high to to
+last_low e cell r low own high from to met before = λ truth of none.
+    lowest_met (λ n. NoneWithin e.machine.base.spec truth cell (span n high)) low own from to met (before truth of none)

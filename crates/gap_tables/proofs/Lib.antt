@@ -7,3 +7,4 @@ pub mod Places
 pub mod Questions
 pub mod Steps
 pub mod Unread
+pub mod Growing

@@ -11,9 +11,9 @@ use Rattle.rsml_syntax.specs.declared.world.World.{World}
 use Rattle.rsml_syntax.specs.text.Names.{Name}
 use Rattle.rsml_meaning.specs.Cells.{InputCell, InputType, cells, is_of}
 use Rattle.rsml_meaning.specs.Worlds.{IsWorld}
-use Rattle.bdd_core.specs.Diagram.{meaning}
 use Rattle.guard_encode.specs.declared.reading.ReadParts.{ReadParts}
-use Rattle.guard_encode.specs.Encoding.{Encoding, Finds, FindsExactly, Keeps, Tells}
+use Rattle.guard_encode.specs.Encoding.{Encoding, Grows, IsOfCell, Keeps, Tells}
+use Rattle.guard_encode.proofs.CellLemmas.{of_cell_as}
 use Rattle.guard_encode.proofs.FindLemmas.{found_on}
 use Rattle.guard_encode.proofs.StepLemmas.{told_as, told_on}
 use Rattle.group_verdicts.proofs.Keeping.{on_new, on_old}
@@ -22,7 +22,8 @@ use Rattle.world_columns.specs.declared.column.Column.{Column}
 use Rattle.world_columns.specs.declared.column.Span.{Span}
 use Rattle.world_columns.specs.Columns.{all_of, in_span, is_allowed, only, span}
 use Rattle.world_columns.specs.Gaps.{IsSpanOf, IsWholeOrOne, IsWidestChild, IsWidestSpan, any, one, whole}
-use Rattle.gap_tables.specs.Widening.{AreAs, Begun, FindsLater, FindsOf, IsBegun, IsHighestEnd, IsLowestEnd, IsNowhere, IsOfParts, NoneComes, NoneWithin, TellsOf, and_child, and_span, begins_with, child_at, children_alone, number_at}
+use Rattle.gap_tables.specs.Widening.{AreAs, Begun, FindsLater, IsBegun, IsHighestEnd, IsLowestEnd, IsNowhere, IsOfParts, NoneComes, NoneWithin, TellsOf, and_child, and_span, begins_with, child_at, children_alone, number_at}
+use Rattle.gap_tables.proofs.Growing.{grown_new}
 use Rattle.gap_tables.proofs.Places.{get_index}
 use Rattle.gap_tables.proofs.Ends.{through}
 use Rattle.gap_tables.proofs.Steps.{asked_from, asked_to, begins_child, begins_span, next_child, next_span, of_parts, own_comes, span_as, unread_child, unread_span, widest_as}
@@ -82,24 +83,40 @@ all_told e cell number low c r at own less told = record {
 }
 
 -- the numbers between two are those from the one on and up to the other
-pub between_is : (b e : Encoding) (truth up : World → Bool) (cell : ℕ) (low high : ℤ) → Keeps b e → ((v : World) → IsWorld b.machine.base.spec v → up v ≡ int_le low (number_at cell v))
+pub between_is : (b e : Encoding) (truth up : World → Bool) (cell : ℕ) (low high : ℤ) → Grows b e → ((v : World) → IsWorld b.machine.base.spec v → up v ≡ int_le low (number_at cell v))
     → (v : World) → IsWorld e.machine.base.spec v → ((truth v && up v) && int_le (number_at cell v) high) ≡ (truth v && in_span (span low high) (number_at cell v))
 between_is b e truth up cell low high keeps same v is =
-    ap (λ x. (truth v && x) && int_le (number_at cell v) high) (on_new (λ s. (v : World) → IsWorld s v → up v ≡ int_le low (number_at cell v)) b e keeps same v is)
+    ap (λ x. (truth v && x) && int_le (number_at cell v) high) (grown_new (λ s. (v : World) → IsWorld s v → up v ≡ int_le low (number_at cell v)) b e keeps same v is)
     ∙ and_assoc (truth v) (int_le low (number_at cell v)) (int_le (number_at cell v) high)
 
-pub decides_of : (a b d : Encoding) (truth : World → Bool) (r decided : ℕ) (is : Bool) → Keeps a d → Keeps b d → FindsOf b truth r
-    → ((truth : World → Bool) → Finds b truth r → FindsExactly d truth decided) → (IsTrue is ↔ ((values : ℕ → Bool) → meaning d.diagram decided values ≡ false))
-    → IsTrue is ↔ IsNowhere a.machine.base.spec truth
-decides_of a b d truth r decided is ad bd of exactly decides =
-    let exact = exactly of.found of.finds in
-    let same : (v : World) → IsWorld d.machine.base.spec v → of.found v ≡ truth v = on_new (λ s. (v : World) → IsWorld s v → of.found v ≡ truth v) b d bd of.same in (
-      λ so. on_old (λ s. IsNowhere s truth) a d ad (λ v world. sym (same v world) ∙ exact.none.0 (decides.0 so) v world),
-      λ none. decides.1 (exact.none.1 (λ v world. same v world ∙ on_new (λ s. IsNowhere s truth) a d ad none v world)),
-    )
+pub all_from : (e : Encoding) (cell : ℕ) (number low : ℤ) (c : InputCell) (r : ℕ) (truth : World → Bool) → slice_get (cells e.machine.base.spec) cell ≡ Some c → low ≡ c.numbers.low
+    → int_le number low ≡ true → IsOfCell e cell truth r → IsOfCell e cell (λ w. truth w && int_le number (number_at cell w)) r
+all_from e cell number low c r truth at own less of =
+    of_cell_as e cell truth (λ w. truth w && int_le number (number_at cell w)) r
+    (λ w is.
+    sym (and_true (truth w))
+    ∙ ap (λ b. truth w && b) (up_from number low (number_at cell w) less (ap (λ (z : ℤ). int_le z (number_at cell w)) own ∙ number_above e.machine.base.spec w is cell c at))) of
 
-pub whole_found : (e : Encoding) (truth : World → Bool) (r : ℕ) → Finds e truth r → FindsOf e truth r
-whole_found e truth r found = record { found = truth; finds = found; same = λ v is. refl }
+pub above_from : (e : Encoding) (cell : ℕ) (number : ℤ) (r : ℕ) (truth : World → Bool) → IsOfCell e cell (λ w. truth w && not (int_le (number_at cell w) (number -ℤ pos 1))) r
+    → IsOfCell e cell (λ w. truth w && int_le number (number_at cell w)) r
+above_from e cell number r truth of =
+    of_cell_as e cell (λ w. truth w && not (int_le (number_at cell w) (number -ℤ pos 1))) (λ w. truth w && int_le number (number_at cell w)) r
+    (λ w is. ap (λ b. truth w && b) (above_is number (number_at cell w))) of
+
+was_false : (b : Bool) → not b ≡ true → b ≡ false
+was_false false e = refl
+was_false true e = absurd (true≢false (sym e))
+
+pub none_between : (a b : Encoding) (truth : World → Bool) (cell : ℕ) (low high : ℤ) (may : Bool) → Keeps a b
+    → ((may ≡ false) ↔ ((w : World) → IsWorld b.machine.base.spec w → ((truth w && int_le low (number_at cell w)) && int_le (number_at cell w) high) ≡ false))
+    → IsTrue (not may) ↔ NoneWithin a.machine.base.spec truth cell (span low high)
+none_between a b truth cell low high may keeps asked = (
+  λ so. on_old (λ s. NoneWithin s truth cell (span low high)) a b keeps (λ w is. sym (same w) ∙ asked.0 (was_false may so) w is),
+  λ none. ap not (asked.1 (λ w is. same w ∙ on_new (λ s. NoneWithin s truth cell (span low high)) a b keeps none w is)),
+)
+  where
+    same : (w : World) → ((truth w && int_le low (number_at cell w)) && int_le (number_at cell w) high) ≡ (truth w && in_span (span low high) (number_at cell w))
+    same w = and_assoc (truth w) (int_le low (number_at cell w)) (int_le (number_at cell w) high)
 
 -- A child.
 
@@ -291,14 +308,14 @@ none_own e read w set cs xs own after others inside later other in_it at none = 
         ≡ (((later.later v && not (set v)) && begins_with (of_parts cs xs) v) && in_span (only own) (number_at (length xs) v))
     same v is = λ i. ((later.later v && other.same v is i) && in_it.same v is i) && in_span (only own) (number_at (length xs) v)
 
-pub told_span : (a d : Encoding) (cs : List (Option ℕ)) (xs : List Span) (x : Span) (r inside : ℕ) → Keeps a d → (of : TellsOf a (begins_with (of_parts cs xs)) inside)
+pub told_span : (a d : Encoding) (cs : List (Option ℕ)) (xs : List Span) (x : Span) (r inside : ℕ) → Grows a d → (of : TellsOf a (begins_with (of_parts cs xs)) inside)
     → TellsOf d (λ v. of.told v && in_span x (number_at (length xs) v)) r → TellsOf d (begins_with (of_parts cs (xs ++ x ∷ []))) r
 told_span a d cs xs x r inside keeps of h = record {
   told = h.told;
   tells = h.tells;
   same = λ v is.
       h.same v is
-      ∙ ap (λ b. b && in_span x (number_at (length xs) v)) (on_new (λ s. (v : World) → IsWorld s v → of.told v ≡ begins_with (of_parts cs xs) v) a d keeps of.same v is)
+      ∙ ap (λ b. b && in_span x (number_at (length xs) v)) (grown_new (λ s. (v : World) → IsWorld s v → of.told v ≡ begins_with (of_parts cs xs) v) a d keeps of.same v is)
       ∙ sym (begins_span (of_parts cs xs) x v);
 }
 
@@ -316,12 +333,12 @@ told_all e cs xs i x inside at all of = record {
       ∙ sym (begins_span (of_parts cs xs) x v);
 }
 
-pub begun_span : (a d : Encoding) (read : ReadParts) (w : World) (set : World → Bool) (cs : List (Option ℕ)) (xs : List Span) (i : InputCell) (x : Span) → Keeps a d → IsWorld a.machine.base.spec w → IsOfParts a.machine.base.spec read set
+pub begun_span : (a d : Encoding) (read : ReadParts) (w : World) (set : World → Bool) (cs : List (Option ℕ)) (xs : List Span) (i : InputCell) (x : Span) → Grows a d → IsWorld a.machine.base.spec w → IsOfParts a.machine.base.spec read set
     → length cs ≡ length w.choices → length xs < length w.cells → slice_get (cells a.machine.base.spec) (length xs) ≡ Some i → IsBegun a.machine.base.spec read set w (of_parts cs xs)
     → IsSpanOf i.numbers.names (λ y. NoneComes a.machine.base.spec read set w (of_parts cs (xs ++ y ∷ []))) i.numbers (number_at (length xs) w) x
     → IsBegun d.machine.base.spec read set w (of_parts cs (xs ++ x ∷ []))
 begun_span a d read w set cs xs i x keeps is of many less at begun widest =
-    on_new (λ s. IsBegun s read set w (of_parts cs (xs ++ x ∷ []))) a d keeps
+    grown_new (λ s. IsBegun s read set w (of_parts cs (xs ++ x ∷ []))) a d keeps
     (next_span a.machine.base.spec read set w cs xs i (number_at (length xs) w) x is of many at (get_index w.cells (length xs) (pos 0) less) begun widest)
 
 pub span_unread : (a : Encoding) (read : ReadParts) (w : World) (set : World → Bool) (cs : List (Option ℕ)) (xs : List Span) (i : InputCell) (x : Span) (inside : ℕ) → IsWorld a.machine.base.spec w → IsOfParts a.machine.base.spec read set

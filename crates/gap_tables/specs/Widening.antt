@@ -8,7 +8,7 @@ use Rattle.rsml_meaning.specs.Groups.{Group, groups}
 use Rattle.rsml_meaning.specs.Worlds.{IsWorld}
 use Rattle.world_levels.specs.Laws.{DifferInCell}
 use Rattle.guard_encode.specs.declared.reading.ReadParts.{ReadParts}
-use Rattle.guard_encode.specs.Encoding.{Encoding, Finds, Tells, TellsExactly}
+use Rattle.guard_encode.specs.Encoding.{Encoding, Finds, IsOfCell, Tells, TellsExactly}
 use Rattle.guard_encode.specs.Reading.{DifferInChoice}
 use Rattle.world_columns.specs.declared.column.Span.{Span}
 use Rattle.world_columns.specs.declared.column.Column.{Column}
@@ -73,12 +73,6 @@ pub record TellsOf (e : Encoding) (truth : World → Bool) (r : ℕ) : Type 0 wh
   pub tells : Tells e told r
   pub same : (v : World) → IsWorld e.machine.base.spec v → told v ≡ truth v
 
--- What r finds is this in all worlds.
-pub record FindsOf (e : Encoding) (truth : World → Bool) (r : ℕ) : Type 0 where
-  pub found : World → Bool
-  pub finds : Finds e found r
-  pub same : (v : World) → IsWorld e.machine.base.spec v → found v ≡ truth v
-
 -- r finds the worlds whose read parts from these on are as in w
 pub record FindsLater (e : Encoding) (read : ReadParts) (w : World) (component cell r : ℕ) : Type 0 where
   pub later : World → Bool
@@ -118,14 +112,14 @@ SpanGoesOn old new read w cell after others inside numbers r = (set : World → 
 abbrev pub NoneWithin : Spec → (World → Bool) → ℕ → Span → Type 0
 NoneWithin s truth cell x = IsNowhere s (λ v. truth v && in_span x (number_at cell v))
 
--- the greatest number up to which no world that bad finds has a number of a cell, if none has the first
+-- the greatest number up to which no world that r tells of a cell has a number of it, if none has the first
 abbrev pub HighestEnd : Encoding → ℕ → ℕ → ℤ → ℤ → ℤ → ℤ → Type 0
-HighestEnd e cell bad own high from to = (truth : World → Bool) → Finds e truth bad → NoneWithin e.machine.base.spec truth cell (span own own)
+HighestEnd e cell r own high from to = (truth : World → Bool) → IsOfCell e cell truth r → NoneWithin e.machine.base.spec truth cell (span own own)
     → IsHighestEnd (λ n. NoneWithin e.machine.base.spec truth cell (span own n)) own high from to
 
 -- the least number from which on, if no such world has one from the last on
 abbrev pub LowestEnd : Encoding → ℕ → ℕ → ℤ → ℤ → ℤ → ℤ → ℤ → Type 0
-LowestEnd e cell bad low own high from to = (truth : World → Bool) → Finds e truth bad → NoneWithin e.machine.base.spec truth cell (span own high)
+LowestEnd e cell r low own high from to = (truth : World → Bool) → IsOfCell e cell truth r → NoneWithin e.machine.base.spec truth cell (span own high)
     → IsLowestEnd (λ n. NoneWithin e.machine.base.spec truth cell (span n high)) low own from to
 
 -- the span has all numbers of a cell

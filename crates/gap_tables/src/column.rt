@@ -3,7 +3,7 @@ ghost use Rattle.std.specs.Prelude.{◌≡◌, ◌+◌, Bool, IfOk, IsTrue, leng
 ghost use Rattle.rsml_syntax.specs.declared.world.World.{World as SpecWorld};
 ghost use Rattle.rsml_meaning.specs.Worlds.{IsWorld};
 ghost use Rattle.bdd_core.specs.Diagram.{IsRef};
-ghost use Rattle.guard_encode.specs.Encoding.{Keeps, Tells};
+ghost use Rattle.guard_encode.specs.Encoding.{Grows, Keeps, Tells};
 ghost use Rattle.world_columns.specs.Columns.{lies_in};
 ghost use Rattle.world_columns.specs.Gaps.{IsColumn};
 ghost use Rattle.gap_tables.specs.Widening.{AreLaterCells, ChildrenFound, ColumnFound, TellsOf};
@@ -43,6 +43,7 @@ fn first_parts(
 }
 
 /// The column of a set that does not depend on parts that are not read, and where the worlds lie in it.
+#[tactic(auto, using(guard_encode::proofs::BoundLemmas::keeps_grows, guard_encode::proofs::BoundLemmas::grows_on, guard_encode::proofs::BoundLemmas::grows_itself))]
 fn column_by(
     alloc: Global,
     encoder: &mut Encoder<'_, '_>,
@@ -54,7 +55,7 @@ fn column_by(
     requires texts { texts.now ≡ encoder.old.machine.base.spec }
     requires world { IsWorld encoder.old.machine.base.spec world.now }
     requires others_ref { IsRef encoder.old.diagram others }
-    ensures keeps { Keeps encoder.old encoder.new }
+    ensures keeps { Grows encoder.old encoder.new }
     ensures is_ref { IfOk result (λ found. IsRef encoder.new.diagram found.1) }
     ensures answer { IfOk result (λ found. ColumnFound encoder.old encoder.new read.now world.now others found.0 found.1) }
 {
@@ -78,6 +79,7 @@ fn column_by(
 }
 
 /// The column from a world of the set that `set` tells, and where the worlds lie in it.
+#[tactic(auto, using(guard_encode::proofs::BoundLemmas::keeps_grows, guard_encode::proofs::BoundLemmas::grows_on, guard_encode::proofs::BoundLemmas::grows_itself))]
 pub(crate) fn column_of(
     alloc: Global,
     encoder: &mut Encoder<'_, '_>,
@@ -88,7 +90,7 @@ pub(crate) fn column_of(
     requires texts { texts.now ≡ encoder.old.machine.base.spec }
     requires world { IsWorld encoder.old.machine.base.spec world.now }
     requires set_ref { IsRef encoder.old.diagram set }
-    ensures keeps { Keeps encoder.old encoder.new }
+    ensures keeps { Grows encoder.old encoder.new }
     ensures is_ref { IfOk result (λ found. IsRef encoder.new.diagram found.1) }
     ensures answer { IfOk result (λ found. (truth : SpecWorld → Bool) → Tells encoder.old truth set → IsTrue (truth world.now)
         → IsColumn encoder.old.machine.base.spec truth world.now found.0 × TellsOf encoder.new (lies_in found.0) found.1) }

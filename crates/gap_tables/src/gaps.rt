@@ -1,7 +1,7 @@
 ghost use Rattle.std.specs.Prelude.{◌≡◌, ◌&&◌, Bool, not, IfOk, IfSome};
 ghost use Rattle.rsml_syntax.specs.declared.world.World.{World as SpecWorld};
 ghost use Rattle.bdd_core.specs.Diagram.{IsRef};
-ghost use Rattle.guard_encode.specs.Encoding.{Keeps, Tells, TellsExactly};
+ghost use Rattle.guard_encode.specs.Encoding.{Grows, HasNoBounds, Keeps, Tells, TellsExactly};
 ghost use Rattle.world_columns.specs.Gaps.{AreGaps, EndsWith};
 ghost use Rattle.gap_tables.specs.Widening.{IsNextColumn, TellsAll};
 
@@ -15,7 +15,7 @@ use std::alloc::Global;
 use world_columns::{Column, Gaps};
 
 /// The columns of the worlds in which `f` is true, at most so many, and whether some of these worlds are in none. `texts` are those of
-/// the encoder's specification.
+/// the encoder's specification. The encoder has no bounds; those that are made are taken back.
 pub fn columns(
     alloc: Global,
     encoder: &mut Encoder<'_, '_>,
@@ -25,7 +25,28 @@ pub fn columns(
 ) -> Result<Gaps, NoMemory>
     requires texts { texts.now ≡ encoder.old.machine.base.spec }
     requires f_ref { IsRef encoder.old.diagram f }
+    requires bounds { HasNoBounds encoder.old }
     ensures keeps { Keeps encoder.old encoder.new }
+    ensures answer { IfOk result (λ g. (truth : SpecWorld → Bool) → Tells encoder.old truth f
+        → AreGaps encoder.new.machine.base.spec truth most g.columns g.more) }
+{
+    let found = columns_by(alloc, encoder, texts, f, most);
+    encoder.without_bounds();
+    found
+}
+
+/// The same, with levels that stand for bounds.
+#[tactic(auto, using(guard_encode::proofs::BoundLemmas::keeps_grows, guard_encode::proofs::BoundLemmas::grows_on, guard_encode::proofs::BoundLemmas::grows_itself))]
+fn columns_by(
+    alloc: Global,
+    encoder: &mut Encoder<'_, '_>,
+    texts: &Texts<'_>,
+    f: Ref,
+    most: u32,
+) -> Result<Gaps, NoMemory>
+    requires texts { texts.now ≡ encoder.old.machine.base.spec }
+    requires f_ref { IsRef encoder.old.diagram f }
+    ensures keeps { Grows encoder.old encoder.new }
     ensures answer { IfOk result (λ g. (truth : SpecWorld → Bool) → Tells encoder.old truth f
         → AreGaps encoder.new.machine.base.spec truth most g.columns g.more) }
 {
@@ -47,6 +68,7 @@ pub fn columns(
 
 /// The column of the least world of a set, and the worlds of the set that are in none of the columns then. None where no world is
 /// in the set, and also where `set` tells none: then what is found as the least need not be a world.
+#[tactic(auto, using(guard_encode::proofs::BoundLemmas::keeps_grows, guard_encode::proofs::BoundLemmas::grows_on, guard_encode::proofs::BoundLemmas::grows_itself))]
 fn next_column(
     alloc: Global,
     encoder: &mut Encoder<'_, '_>,
@@ -55,7 +77,7 @@ fn next_column(
 ) -> Result<Option<(Column, Ref)>, NoMemory>
     requires texts { texts.now ≡ encoder.old.machine.base.spec }
     requires set_ref { IsRef encoder.old.diagram set }
-    ensures keeps { Keeps encoder.old encoder.new }
+    ensures keeps { Grows encoder.old encoder.new }
     ensures is_ref { IfOk result (λ found. IfSome found (λ next. IsRef encoder.new.diagram next.1)) }
     ensures answer { IfOk result (λ found. (truth : SpecWorld → Bool) → TellsAll encoder.old truth set
         → IsNextColumn encoder.old encoder.new truth found) }

@@ -1,7 +1,7 @@
 ghost use Rattle.std.specs.Prelude.{◌≡◌, ◌<◌, ◌≤◌, IfOk, length};
 ghost use Rattle.std.specs.List.{AllZip};
 ghost use Rattle.rsml_meaning.specs.Groups.{groups};
-ghost use Rattle.guard_encode.specs.Encoding.{Keeps};
+ghost use Rattle.guard_encode.specs.Encoding.{HasNoBounds, Keeps};
 ghost use Rattle.group_verdicts.specs.Counts.{AreCounts};
 ghost use Rattle.world_columns.specs.Failing.{enables_none, enables_two};
 ghost use Rattle.world_columns.specs.GapsOf.{AreGroupGaps};
@@ -10,11 +10,14 @@ ghost use Rattle.gap_tables.specs.Widening.{ColumnsAt, ToldAt};
 use crate::gaps::columns;
 use elaborate::Machine;
 use group_verdicts::{Counts, none_enabled, two_enabled};
-use guard_encode::Encoder;
+use guard_encode::{Encoder, Plan, plan_of};
 use instance_texts::Texts;
 use rsml_base::NoMemory;
 use std::alloc::Global;
 use world_columns::{Gaps, GroupGaps};
+
+/// For so many columns there are levels for all ends of spans. Many bounds of one cell make larger functions than its own levels.
+const COLUMNS_WITH_BOUNDS: u32 = 9;
 
 /// What is told of each group of a machine, in order, with at most so many columns. `texts` are those of the machine's specification.
 /// The only error is out of memory.
@@ -28,8 +31,20 @@ pub fn group_gaps(
     requires some { 1 ≤ most }
     ensures { IfOk result (λ v. AllZip (AreGroupGaps machine.now.base.spec most) (groups machine.now.base.spec) v.items) }
 {
-    let mut encoder = Encoder::new(alloc, machine)?;
+    let plan = plan_of(alloc, machine)?;
+    let spare = spare_levels(machine, &plan, most);
+    let mut encoder = Encoder::with(alloc, machine, plan, spare)?;
     gaps_by(alloc, &mut encoder, texts, most)
+}
+
+/// A level for each end of each span of the first columns, where comparisons have levels; not more than 65,536.
+fn spare_levels(machine: &Machine<'_>, plan: &Plan, most: u32) -> u32 {
+    if !plan.has_comparisons() {
+        return 0;
+    }
+    let ends = machine.worlds().cells().saturating_mul(2);
+    let columns = most.min(COLUMNS_WITH_BOUNDS) as usize;
+    ends.saturating_mul(columns).min(65_536) as u32
 }
 
 /// The same, by the diagrams of an encoder of the machine.
@@ -40,6 +55,7 @@ fn gaps_by(
     most: u32,
 ) -> Result<Vec<GroupGaps>, NoMemory>
     requires texts { texts.now ≡ encoder.old.machine.base.spec }
+    requires bounds { HasNoBounds encoder.old }
     requires some { 1 ≤ most }
     ensures { IfOk result (λ v. AllZip (AreGroupGaps encoder.old.machine.base.spec most) (groups encoder.old.machine.base.spec) v.items) }
 {
@@ -62,6 +78,7 @@ fn gaps_of(
     most: u32,
 ) -> Result<GroupGaps, NoMemory>
     requires texts { texts.now ≡ encoder.old.machine.base.spec }
+    requires bounds { HasNoBounds encoder.old }
     requires group { group < length (groups encoder.old.machine.base.spec) }
     requires counts { AreCounts encoder.old counts.old }
     requires some { 1 ≤ most }
@@ -90,6 +107,7 @@ fn columns_of_none(
     most: u32,
 ) -> Result<Gaps, NoMemory>
     requires texts { texts.now ≡ encoder.old.machine.base.spec }
+    requires bounds { HasNoBounds encoder.old }
     requires group { group < length (groups encoder.old.machine.base.spec) }
     requires counts { AreCounts encoder.old counts.old }
     ensures keeps { Keeps encoder.old encoder.new }
@@ -110,6 +128,7 @@ fn columns_of_two(
     most: u32,
 ) -> Result<Gaps, NoMemory>
     requires texts { texts.now ≡ encoder.old.machine.base.spec }
+    requires bounds { HasNoBounds encoder.old }
     requires group { group < length (groups encoder.old.machine.base.spec) }
     requires counts { AreCounts encoder.old counts.old }
     ensures keeps { Keeps encoder.old encoder.new }

@@ -4,13 +4,13 @@ ghost use Rattle.rsml_syntax.specs.declared.world.World.{World as SpecWorld};
 ghost use Rattle.rsml_meaning.specs.Cells.{InputCell, cells as all_cells, is_of};
 ghost use Rattle.rsml_meaning.specs.Worlds.{IsWorld};
 ghost use Rattle.bdd_core.specs.Diagram.{IsRef};
-ghost use Rattle.guard_encode.specs.Encoding.{Finds, Keeps};
+ghost use Rattle.guard_encode.specs.Encoding.{Finds, Grows, Keeps};
 ghost use Rattle.world_columns.specs.Columns.{span};
 ghost use Rattle.world_columns.specs.Gaps.{IsWholeOrOne, IsWidestSpan};
 ghost use Rattle.gap_tables.specs.Widening.{AreLaterCells, HoldsWhole, IsSpanAsked, NoneWithin, SpanGoesOn, SpansFound};
 
 use crate::asking::coming;
-use crate::cells::{between, highest, lowest};
+use crate::cells::{highest, lowest, within};
 use crate::later::later_at;
 use crate::parts::number_in;
 use bdd_core::Ref;
@@ -22,6 +22,9 @@ use rsml_syntax::World;
 use std::alloc::Global;
 use world_columns::Span;
 use worlds::Worlds;
+
+/// The spans of so many cells that meet in sums are told by the levels of the cells, where they have not all numbers.
+const TOLD_BY_LEVELS: u32 = 3;
 
 /// All numbers that a cell may hold.
 fn whole(worlds: &Worlds<'_>, cell: u32) -> Span
@@ -59,7 +62,8 @@ fn whole_or_one(
     })
 }
 
-/// The span of a range: from the world's number up as far as no world of `bad` comes in, and then down.
+/// The span of a range: from the world's number up as far as no world of `bad` comes in, and then down. What `bad` tells of the cell is
+/// made once, and each half is asked of that.
 fn range(
     alloc: Global,
     encoder: &mut Encoder<'_, '_>,
@@ -79,8 +83,9 @@ fn range(
     let worlds = encoder.machine().worlds();
     let first = worlds.low(cell);
     let last = worlds.high(cell);
-    let high = highest(alloc, encoder, cell, own, last, bad)?;
-    let low = lowest(alloc, encoder, cell, first, own, high, bad)?;
+    let told = encoder.of_cell(alloc, bad, cell)?;
+    let high = highest(encoder, cell, own, last, told)?;
+    let low = lowest(encoder, cell, first, own, high, told)?;
     Ok(Span { low, high })
 }
 
@@ -108,7 +113,9 @@ fn span_of(
 }
 
 /// The next span of a column, and where the worlds have it and the parts before it. `after` finds the worlds whose later parts are as
-/// in this one, `others` tells those outside the set, and `inside` those that have the parts so far.
+/// in this one, `others` tells those outside the set, and `inside` those that have the parts so far. The span is told by bounds where
+/// that is asked for.
+#[tactic(auto, using(guard_encode::proofs::BoundLemmas::keeps_grows, guard_encode::proofs::BoundLemmas::grows_on, guard_encode::proofs::BoundLemmas::grows_itself))]
 pub(crate) fn next_span(
     alloc: Global,
     encoder: &mut Encoder<'_, '_>,
@@ -119,6 +126,7 @@ pub(crate) fn next_span(
     after: Ref,
     others: Ref,
     inside: Ref,
+    by_bounds: bool,
 ) -> Result<(Span, Ref), NoMemory>
     requires texts { texts.now ≡ encoder.old.machine.base.spec }
     requires cell { cell < length (all_cells encoder.old.machine.base.spec) }
@@ -126,7 +134,7 @@ pub(crate) fn next_span(
     requires after_ref { IsRef encoder.old.diagram after }
     requires others_ref { IsRef encoder.old.diagram others }
     requires inside_ref { IsRef encoder.old.diagram inside }
-    ensures keeps { Keeps encoder.old encoder.new }
+    ensures keeps { Grows encoder.old encoder.new }
     ensures is_ref { IfOk result (λ found. IsRef encoder.new.diagram found.1) }
     ensures answer { IfOk result (λ found. SpanGoesOn encoder.old encoder.new read.now world.now cell after others inside found.0 found.1) }
 {
@@ -136,12 +144,14 @@ pub(crate) fn next_span(
     let own = number_in(world, cell);
     let bad = coming(encoder, after, others, inside)?;
     let span = span_of(alloc, encoder, texts, cell, own, bad)?;
-    let narrowed = between(encoder, cell, span.low, span.high, inside)?;
+    let narrowed = within(alloc, encoder, cell, span, inside, by_bounds)?;
     Ok((span, narrowed))
 }
 
 /// The spans of the column of a set from a world, and where the worlds have them. `others` tells the worlds outside the set, and
-/// `first` those that have the children of the column.
+/// `first` those that have the children of the column. Of cells that meet in sums the first few that have not all numbers are told by
+/// diagrams of their levels, and the others by bounds: their levels are interleaved, so that diagrams of many would be large.
+#[tactic(auto, using(guard_encode::proofs::BoundLemmas::keeps_grows, guard_encode::proofs::BoundLemmas::grows_on, guard_encode::proofs::BoundLemmas::grows_itself))]
 pub(crate) fn spans(
     alloc: Global,
     encoder: &mut Encoder<'_, '_>,
@@ -158,7 +168,7 @@ pub(crate) fn spans(
     requires later { AreLaterCells encoder.old read.now world.now later.now }
     requires others_ref { IsRef encoder.old.diagram others }
     requires first_ref { IsRef encoder.old.diagram first }
-    ensures keeps { Keeps encoder.old encoder.new }
+    ensures keeps { Grows encoder.old encoder.new }
     ensures is_ref { IfOk result (λ found. IsRef encoder.new.diagram found.1) }
     ensures many { IfOk result (λ found. length found.0 ≡ length world.now.cells) }
     ensures answer { IfOk result (λ found. (children : Items (Option ℕ)) → length children ≡ length world.now.choices
@@ -166,14 +176,26 @@ pub(crate) fn spans(
 {
     let mut spans = List::new(alloc);
     let mut inside = first;
+    let mut narrow: u32 = 0;
     let cells = world.cells.len();
     for place in 0..cells {
         let after = later_at(later, cells - 1 - place);
         let cell = cell_number(place)?;
         let (span, narrowed) = next_span(
-            alloc, encoder, texts, read, world, cell, after, others, inside,
+            alloc,
+            encoder,
+            texts,
+            read,
+            world,
+            cell,
+            after,
+            others,
+            inside,
+            narrow >= TOLD_BY_LEVELS,
         )?;
         spans.push(span)?;
+        let is_narrow = narrowed != inside && encoder.is_named(cell);
+        narrow = narrow.saturating_add(u32::from(is_narrow));
         inside = narrowed;
     }
     Ok((spans, inside))

@@ -22,8 +22,8 @@ loop-good-preserved-then-branch c =
     let same = to_z-of_z w64 c.upper_half-middle.result fits in
     record {
       keeps = keeps_on a b d before.keeps keeps;
-      bad_ref = ref_on b d c.args.bad keeps before.bad_ref;
-      between = higher_half a b c.args.cell c.args.bad own high from middle to c.in_ok-lies.field-0 before.keeps
+      told_ref = ref_on b d c.args.told keeps before.told_ref;
+      between = higher_half a b c.args.cell c.args.told own high from middle to c.in_ok-lies.field-0 before.keeps
           (subst (λ (n : ℤ). from <ℤ n) (sym same) c.upper_half-middle.ensures.low) (subst (λ (n : ℤ). n ≤ℤ to) (sym same) c.upper_half-middle.ensures.high)
           c.in_ok-lies.ensures.answer c.if-branch.true before.between;
     }
@@ -45,9 +45,9 @@ loop-good-preserved c =
     let less_fits : SFits w64 (middle -ℤ pos 1) = search rules in
     record {
       keeps = keeps_on a b d before.keeps keeps;
-      bad_ref = ref_on b d c.args.bad keeps before.bad_ref;
-      between = subst (λ (n : ℤ). HighestEnd a c.args.cell c.args.bad own high from n) (sym (to_z-of_z w64 (middle -ℤ pos 1) less_fits))
-          (not_higher a b c.args.cell c.args.bad own high from middle to c.in_ok-lies.field-0 before.keeps
+      told_ref = ref_on b d c.args.told keeps before.told_ref;
+      between = subst (λ (n : ℤ). HighestEnd a c.args.cell c.args.told own high from n) (sym (to_z-of_z w64 (middle -ℤ pos 1) less_fits))
+          (not_higher a b c.args.cell c.args.told own high from middle to c.in_ok-lies.field-0 before.keeps
           (subst (λ (n : ℤ). from <ℤ n) (sym same) c.upper_half-middle.ensures.low) (subst (λ (n : ℤ). n ≤ℤ to) (sym same) c.upper_half-middle.ensures.high)
           c.in_ok-lies.ensures.answer c.if-branch.false before.between);
     }
@@ -62,6 +62,6 @@ returns-clause-answer c =
     let own_fits : SFits w64 c.args.own = search rules in
     let high_fits : SFits w64 c.args.high = search rules in
     let not_less : from <ℤ to → ⊥ = search rules in
-    subst (λ (n : ℤ). HighestEnd a c.args.cell c.args.bad c.args.own n from from) (to_z-of_z w64 c.args.high high_fits)
-    (subst (λ (n : ℤ). HighestEnd a c.args.cell c.args.bad n high from from) (to_z-of_z w64 c.args.own own_fits)
-    (last_high a c.args.cell c.args.bad own high from to not_less c.loop-good.invariant.between))
+    subst (λ (n : ℤ). HighestEnd a c.args.cell c.args.told c.args.own n from from) (to_z-of_z w64 c.args.high high_fits)
+    (subst (λ (n : ℤ). HighestEnd a c.args.cell c.args.told n high from from) (to_z-of_z w64 c.args.own own_fits)
+    (last_high a c.args.cell c.args.told own high from to not_less c.loop-good.invariant.between))

@@ -8,8 +8,8 @@ use Rattle.gap_tables.proofs.cells.highest.Given as goal
 abbrev pub invariant-loop-good : goal.invariant-loop-good
 invariant-loop-good l = record {
   keeps : Keeps l.fn.encoder l.encoder;
-  bad_ref : IsRef l.encoder.diagram l.bad;
-  between : HighestEnd l.fn.encoder l.cell l.bad l.own l.high l.good l.end;
+  told_ref : IsRef l.encoder.diagram l.told;
+  between : HighestEnd l.fn.encoder l.cell l.told l.own l.high l.good l.end;
 }
 
 abbrev pub decreases-loop-good : goal.decreases-loop-good

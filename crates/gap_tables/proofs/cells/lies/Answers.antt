@@ -1,21 +1,21 @@
-use Rattle.std.proofs.Common.{◌&&◌, subst, ℤ, w64, to_z, of_z, SFits, rules}
+use Rattle.std.proofs.Common.{◌≡◌, ◌↔◌, false, ◌&&◌, subst, ℤ, int_le, w64, SFits, rules}
 use Rattle.std.proofs.lemmas.Int.{to_z-of_z}
-use Rattle.guard_encode.proofs.StepLemmas.{keeps_on}
-use Rattle.world_columns.specs.Columns.{in_span, span}
-use Rattle.gap_tables.specs.Widening.{FindsOf, number_at}
-use Rattle.gap_tables.proofs.PartAnswers.{decides_of}
+use Rattle.rsml_syntax.specs.declared.world.World.{World}
+use Rattle.rsml_meaning.specs.Worlds.{IsWorld}
+use Rattle.guard_encode.specs.Encoding.{IsOfCell}
+use Rattle.gap_tables.specs.Widening.{number_at}
+use Rattle.gap_tables.proofs.PartAnswers.{none_between}
 use Rattle.gap_tables.proofs.cells.lies.Goals as goal
 
 pub returns-clause-answer : goal.returns-clause-answer
-returns-clause-answer c = λ truth found.
+returns-clause-answer c = λ truth of.
     let low_fits : SFits w64 c.args.low = search rules in
     let high_fits : SFits w64 c.args.high = search rules in
     let a = c.args.encoder.now in
-    let b = c.between.new.encoder in
-    let d = c.decided.new.self in
-    let r = c.in_ok-inside.inside in
-    let asked = c.in_ok-inside.ensures.found truth found in
-    let of = subst (λ (n : ℤ). FindsOf b (λ w. truth w && in_span (span c.args.low n) (number_at c.args.cell w)) r) (to_z-of_z w64 c.args.high high_fits)
-    (subst (λ (m : ℤ). FindsOf b (λ w. truth w && in_span (span m (to_z w64 (of_z w64 c.args.high))) (number_at c.args.cell w)) r) (to_z-of_z w64 c.args.low low_fits) asked) in
-    decides_of a b d (λ w. truth w && in_span (span c.args.low c.args.high) (number_at c.args.cell w)) r c.in_ok-decided.decided c.is_false.result
-    (keeps_on a b d c.in_ok-inside.ensures.keeps c.in_ok-decided.ensures.keeps) c.in_ok-decided.ensures.keeps of c.in_ok-decided.ensures.found c.is_false.ensures
+    let b = c.told_from.new.encoder in
+    let cell = c.args.cell in
+    let may = c.in_ok-may.may in
+    let up = subst (λ (n : ℤ). IsOfCell b cell (λ w. truth w && int_le n (number_at cell w)) c.in_ok-up.up) (to_z-of_z w64 c.args.low low_fits) (c.in_ok-up.ensures.answer truth of) in
+    let asked = subst (λ (n : ℤ). (may ≡ false) ↔ ((w : World) → IsWorld b.machine.base.spec w → ((truth w && int_le c.args.low (number_at cell w)) && int_le (number_at cell w) n) ≡ false))
+    (to_z-of_z w64 c.args.high high_fits) (c.in_ok-may.ensures.answer (λ w. truth w && int_le c.args.low (number_at cell w)) up) in
+    none_between a b truth cell c.args.low c.args.high may c.in_ok-up.ensures.keeps asked

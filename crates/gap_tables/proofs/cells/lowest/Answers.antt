@@ -23,8 +23,8 @@ loop-end-preserved-then-branch c =
     let same = to_z-of_z w64 c.lower_half-middle.result fits in
     record {
       keeps = keeps_on a b d before.keeps keeps;
-      bad_ref = ref_on b d c.args.bad keeps before.bad_ref;
-      between = lower_half a b c.args.cell c.args.bad low own high from middle to c.in_ok-lies.field-0 before.keeps
+      told_ref = ref_on b d c.args.told keeps before.told_ref;
+      between = lower_half a b c.args.cell c.args.told low own high from middle to c.in_ok-lies.field-0 before.keeps
           (subst (λ (n : ℤ). from ≤ℤ n) (sym same) c.lower_half-middle.ensures.low) (subst (λ (n : ℤ). n <ℤ to) (sym same) c.lower_half-middle.ensures.high)
           c.in_ok-lies.ensures.answer c.if-branch.true before.between;
     }
@@ -47,9 +47,9 @@ loop-end-preserved c =
     let more_fits : SFits w64 (middle +ℤ pos 1) = search rules in
     record {
       keeps = keeps_on a b d before.keeps keeps;
-      bad_ref = ref_on b d c.args.bad keeps before.bad_ref;
-      between = subst (λ (n : ℤ). LowestEnd a c.args.cell c.args.bad low own high n to) (sym (to_z-of_z w64 (middle +ℤ pos 1) more_fits))
-          (not_lower a b c.args.cell c.args.bad low own high from middle to c.in_ok-lies.field-0 before.keeps
+      told_ref = ref_on b d c.args.told keeps before.told_ref;
+      between = subst (λ (n : ℤ). LowestEnd a c.args.cell c.args.told low own high n to) (sym (to_z-of_z w64 (middle +ℤ pos 1) more_fits))
+          (not_lower a b c.args.cell c.args.told low own high from middle to c.in_ok-lies.field-0 before.keeps
           (subst (λ (n : ℤ). from ≤ℤ n) (sym same) c.lower_half-middle.ensures.low) (subst (λ (n : ℤ). n <ℤ to) (sym same) c.lower_half-middle.ensures.high)
           c.in_ok-lies.ensures.answer c.if-branch.false before.between);
     }
@@ -66,7 +66,7 @@ returns-clause-answer c =
     let own_fits : SFits w64 c.args.own = search rules in
     let high_fits : SFits w64 c.args.high = search rules in
     let not_less : from <ℤ to → ⊥ = search rules in
-    subst (λ (n : ℤ). LowestEnd a c.args.cell c.args.bad n c.args.own c.args.high to to) (to_z-of_z w64 c.args.low low_fits)
-    (subst (λ (n : ℤ). LowestEnd a c.args.cell c.args.bad low n c.args.high to to) (to_z-of_z w64 c.args.own own_fits)
-    (subst (λ (n : ℤ). LowestEnd a c.args.cell c.args.bad low own n to to) (to_z-of_z w64 c.args.high high_fits)
-    (last_low a c.args.cell c.args.bad low own high from to not_less c.loop-end.invariant.between)))
+    subst (λ (n : ℤ). LowestEnd a c.args.cell c.args.told n c.args.own c.args.high to to) (to_z-of_z w64 c.args.low low_fits)
+    (subst (λ (n : ℤ). LowestEnd a c.args.cell c.args.told low n c.args.high to to) (to_z-of_z w64 c.args.own own_fits)
+    (subst (λ (n : ℤ). LowestEnd a c.args.cell c.args.told low own n to to) (to_z-of_z w64 c.args.high high_fits)
+    (last_low a c.args.cell c.args.told low own high from to not_less c.loop-end.invariant.between)))

@@ -8,8 +8,8 @@ use Rattle.gap_tables.proofs.cells.lowest.Given as goal
 abbrev pub invariant-loop-end : goal.invariant-loop-end
 invariant-loop-end l = record {
   keeps : Keeps l.fn.encoder l.encoder;
-  bad_ref : IsRef l.encoder.diagram l.bad;
-  between : LowestEnd l.fn.encoder l.cell l.bad l.low l.own l.high l.end l.good;
+  told_ref : IsRef l.encoder.diagram l.told;
+  between : LowestEnd l.fn.encoder l.cell l.told l.low l.own l.high l.end l.good;
 }
 
 abbrev pub decreases-loop-end : goal.decreases-loop-end

@@ -1,5 +1,6 @@
 use Rattle.std.proofs.Common.{◌≡◌, ℕ, List, sym, subst}
 use Rattle.rsml_meaning.specs.Worlds.{IsWorld}
+use Rattle.guard_encode.proofs.BoundLemmas.{grows_on, keeps_grows}
 use Rattle.guard_encode.proofs.StepLemmas.{keeps_on}
 use Rattle.group_verdicts.proofs.Keeping.{on_new}
 use Rattle.gap_tables.specs.Widening.{AreLaterCells}
@@ -43,3 +44,19 @@ returns-clause-answer c =
     c.in_ok-numbers.ensures.keeps c.requires.world c.in_ok-children.ensures.many c.in_ok-numbers.ensures.many
     (children_from a b e read w c.args.others cs c.in_ok-children.first c.in_ok-later.ensures.keeps c.in_ok-children.ensures.answer)
     (c.in_ok-numbers.ensures.answer cs c.in_ok-children.ensures.many)
+
+pub returns-clause-keeps : goal.returns-clause-keeps
+returns-clause-keeps c =
+    let a = c.args.encoder.now in
+    let b = c.later_cells.new.encoder in
+    let e = c.first_parts.new.encoder in
+    grows_on a e c.spans.new.encoder (keeps_grows a e (keeps_on a b e c.in_ok-later.ensures.keeps c.in_ok-children.ensures.keeps)) c.in_ok-numbers.ensures.keeps
+
+pub returns-in_err-later-clause-keeps : goal.returns-in_err-later-clause-keeps
+returns-in_err-later-clause-keeps c = keeps_grows c.args.encoder.now c.later_cells.new.encoder c.in_err-later.ensures.keeps
+
+pub returns-in_err-children-clause-keeps : goal.returns-in_err-children-clause-keeps
+returns-in_err-children-clause-keeps c =
+    let a = c.args.encoder.now in
+    let e = c.first_parts.new.encoder in
+    keeps_grows a e (keeps_on a c.later_cells.new.encoder e c.in_ok-later.ensures.keeps c.in_err-children.ensures.keeps)

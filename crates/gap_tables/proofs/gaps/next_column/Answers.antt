@@ -2,6 +2,7 @@ use Rattle.std.proofs.Common.{◌≡◌, sym, ◌∙◌, subst, false, true≢fa
 use Rattle.std.proofs.lemmas.Option.{MatchOption-at_none, MatchOption-at_some}
 use Rattle.rsml_syntax.specs.declared.syntax.Spec.{Spec}
 use Rattle.rsml_meaning.specs.Worlds.{IsWorld, is_world}
+use Rattle.guard_encode.proofs.BoundLemmas.{grows_on, keeps_grows, told_grows}
 use Rattle.guard_encode.proofs.StepLemmas.{told_on}
 use Rattle.group_verdicts.proofs.Keeping.{on_new, spec_of}
 use Rattle.group_verdicts.proofs.FailLemmas.{Nowhere}
@@ -48,4 +49,21 @@ returns-clause-answer c = λ set all.
     let told = told_on a b all.told c.args.set c.in_ok-world.ensures.keeps all.tells.told in
     let column = c.in_ok-column.ensures.answer all.told told least.such.1 in
     next_found a b e d set c.args.set w c.in_ok-column.column c.in_ok-column.inside c.in_ok-left.left c.in_ok-world.ensures.keeps c.in_ok-column.ensures.keeps c.in_ok-left.ensures.keeps all
-    least column (c.in_ok-left.ensures.answer all.told column.1.told (told_on b e all.told c.args.set c.in_ok-column.ensures.keeps told) column.1.tells)
+    least column (c.in_ok-left.ensures.answer all.told column.1.told (told_grows b e all.told c.args.set c.in_ok-column.ensures.keeps told) column.1.tells)
+
+pub returns-clause-keeps : goal.returns-clause-keeps
+returns-clause-keeps c =
+    let a = c.args.encoder.now in
+    let b = c.least_world.new.encoder in
+    let e = c.column_of.new.encoder in
+    let d = c.without.new.encoder in
+    grows_on a b d (keeps_grows a b c.in_ok-world.ensures.keeps) (grows_on b e d c.in_ok-column.ensures.keeps (keeps_grows e d c.in_ok-left.ensures.keeps))
+
+pub returns-in_err-world-clause-keeps : goal.returns-in_err-world-clause-keeps
+returns-in_err-world-clause-keeps c = keeps_grows c.args.encoder.now c.least_world.new.encoder c.in_err-world.ensures.keeps
+
+pub returns-in_default-clause-keeps : goal.returns-in_default-clause-keeps
+returns-in_default-clause-keeps c = keeps_grows c.args.encoder.now c.least_world.new.encoder c.in_ok-world.ensures.keeps
+
+pub returns-then-not-fits-clause-keeps : goal.returns-then-not-fits-clause-keeps
+returns-then-not-fits-clause-keeps c = keeps_grows c.args.encoder.now c.least_world.new.encoder c.in_ok-world.ensures.keeps

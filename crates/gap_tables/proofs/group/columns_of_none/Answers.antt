@@ -1,5 +1,6 @@
 use Rattle.std.proofs.Common.{◌≡◌}
 use Rattle.std.proofs.lemmas.Result.{IfOk-weaker}
+use Rattle.guard_encode.proofs.BoundLemmas.{none_stay}
 use Rattle.group_verdicts.proofs.AtLemmas.{there_on}
 use Rattle.group_verdicts.proofs.CountsLemmas.{counts_on}
 use Rattle.group_verdicts.proofs.FoundLemmas.{ref_at}
@@ -24,3 +25,6 @@ returns-clause-found c =
     IfOk-weaker c.columns.result _ _
     (λ x. columns_at c.none_enabled.new.encoder c.columns.new.encoder c.args.group c.in_ok-none.none c.args.most enables_none x c.columns.ensures.keeps c.in_ok-none.ensures.answer)
     c.columns.ensures.answer
+
+pub columns-requires-clause-bounds : goal.columns-requires-clause-bounds
+columns-requires-clause-bounds c = none_stay c.args.encoder.now c.none_enabled.new.encoder c.in_ok-none.ensures.keeps c.requires.bounds

@@ -2,6 +2,7 @@ use Rattle.std.proofs.Common.{◌≡◌, ◌<◌, ◌≤◌, length, sym, ap, ar
 use Rattle.rsml_syntax.specs.declared.syntax.Spec.{Spec}
 use Rattle.rsml_meaning.specs.Groups.{groups}
 use Rattle.elaborate.specs.Machine.{GroundMachine}
+use Rattle.guard_encode.proofs.BoundLemmas.{none_stay}
 use Rattle.guard_encode.proofs.StepLemmas.{keeps_on}
 use Rattle.group_verdicts.proofs.Keeping.{on_new, on_old}
 use Rattle.group_verdicts.proofs.ListLemmas.{found_all}
@@ -50,3 +51,6 @@ returns c =
     let same = ap (λ (n : GroundMachine). length (groups n.base.spec)) c.machine-machine.ensures in
     let past : length (groups s) ≤ c.loop-group.group = omega (arith, c.loop-group-test.false, c.count-group-end.ensures, many, same) in
     found_all (AreGroupGaps s c.args.most) (groups s) _ c.loop-group.group past c.loop-group.invariant.so_far
+
+pub gaps_of-requires-clause-bounds : goal.gaps_of-requires-clause-bounds
+gaps_of-requires-clause-bounds c = none_stay c.args.encoder.now c.loop-group.encoder c.loop-group.invariant.keeps c.requires.bounds

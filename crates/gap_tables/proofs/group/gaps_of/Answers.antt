@@ -1,4 +1,5 @@
 use Rattle.std.proofs.Common.{◌≡◌}
+use Rattle.guard_encode.proofs.BoundLemmas.{none_stay}
 use Rattle.group_verdicts.proofs.AtLemmas.{there_on}
 use Rattle.group_verdicts.proofs.Keeping.{on_new}
 use Rattle.gap_tables.proofs.GroupLemmas.{NoneAt, double_at, missing_at, none_at, sound_at}
@@ -32,3 +33,6 @@ returns-clause-found c =
     let none = none_at b.machine.base.spec group c.args.most c.in_ok-missing.missing c.requires.some (c.is_empty.ensures.0 c.if-not-is_empty.false) c.in_ok-missing.ensures.found in
     sound_at d.machine.base.spec group c.args.most c.in_ok-double.double c.requires.some (on_new (NoneAt group) b d c.in_ok-double.ensures.keeps none)
     (c.is_empty-2.ensures.0 c.if-not-is_empty-2.false) c.in_ok-double.ensures.found
+
+pub columns_of_two-requires-clause-bounds : goal.columns_of_two-requires-clause-bounds
+columns_of_two-requires-clause-bounds c = none_stay c.args.encoder.now c.columns_of_none.new.encoder c.in_ok-missing.ensures.keeps c.requires.bounds

@@ -3,10 +3,10 @@ use Rattle.std.proofs.lemmas.Int.{to_z-of_z}
 use Rattle.rsml_syntax.specs.declared.syntax.Spec.{Spec}
 use Rattle.rsml_meaning.specs.Cells.{InputCell, cells, is_of}
 use Rattle.state_tree.proofs.Lists.{within_get}
+use Rattle.guard_encode.proofs.BoundLemmas.{grows_on, keeps_grows}
 use Rattle.guard_encode.proofs.StepLemmas.{keeps_on, told_on}
 use Rattle.group_verdicts.proofs.Keeping.{on_new, on_old, spec_of}
 use Rattle.group_verdicts.proofs.Parts.{many_cells}
-use Rattle.world_columns.specs.declared.column.Span.{Span}
 use Rattle.world_columns.specs.Columns.{in_span, span}
 use Rattle.world_columns.specs.Gaps.{IsSpanOf}
 use Rattle.gap_tables.specs.Widening.{FindsLater, NoneWithin, TellsOf, begins_with, number_at}
@@ -47,7 +47,7 @@ returns-clause-answer c = λ set cs xs of all many later other begun.
     let a = c.args.encoder.now in
     let b = c.coming.new.encoder in
     let e = c.span_of.new.encoder in
-    let d = c.between.new.encoder in
+    let d = c.within.new.encoder in
     let s = a.machine.base.spec in
     let read = c.args.read.now in
     let w = c.args.world.now in
@@ -74,14 +74,26 @@ returns-clause-answer c = λ set cs xs of all many later other begun.
     let here = subst (λ n. IsSpanOf there.0.numbers.names (NoneWithin s truth n) there.0.numbers (number_at n w) x) (sym many)
     (subst (λ (n : ℤ). IsSpanOf there.0.numbers.names (NoneWithin s truth c.args.cell) there.0.numbers n x) number_is back) in
     let ae = keeps_on a b e c.in_ok-bad.ensures.keeps c.in_ok-span.ensures.keeps in
-    let ad = keeps_on a e d ae c.in_ok-narrowed.ensures.keeps in
-    let low_fits : SFits w64 x.low = search rules in
-    let high_fits : SFits w64 x.high = search rules in
-    let told = subst (λ (y : Span). TellsOf d (λ v. begun.1.told v && in_span y (number_at c.args.cell v)) c.in_ok-narrowed.narrowed)
-    (λ k. record { low = to_z-of_z w64 x.low low_fits k; high = to_z-of_z w64 x.high high_fits k })
-    (c.in_ok-narrowed.ensures.told begun.1.told (told_on a e begun.1.told c.args.inside ae begun.1.tells)) in (
+    let ad = grows_on a e d (keeps_grows a e ae) c.in_ok-narrowed.ensures.keeps in
+    let told = c.in_ok-narrowed.ensures.told begun.1.told (told_on a e begun.1.told c.args.inside ae begun.1.tells) in (
       begun_span a d read w set cs xs there.0 x ad c.requires.world of all less at begun.0
           (span_widest a read w set cs xs there.0.numbers.names there.0.numbers own c.args.after c.args.others c.args.inside x after other begun.1 here),
       told_span a d cs xs x c.in_ok-narrowed.narrowed c.args.inside ad begun.1
           (subst (λ n. TellsOf d (λ v. begun.1.told v && in_span x (number_at n v)) c.in_ok-narrowed.narrowed) (sym many) told),
     )
+
+pub returns-clause-keeps : goal.returns-clause-keeps
+returns-clause-keeps c =
+    let a = c.args.encoder.now in
+    let b = c.coming.new.encoder in
+    let e = c.span_of.new.encoder in
+    grows_on a e c.within.new.encoder (keeps_grows a e (keeps_on a b e c.in_ok-bad.ensures.keeps c.in_ok-span.ensures.keeps)) c.in_ok-narrowed.ensures.keeps
+
+pub returns-in_err-bad-clause-keeps : goal.returns-in_err-bad-clause-keeps
+returns-in_err-bad-clause-keeps c = keeps_grows c.args.encoder.now c.coming.new.encoder c.in_err-bad.ensures.keeps
+
+pub returns-in_err-span-clause-keeps : goal.returns-in_err-span-clause-keeps
+returns-in_err-span-clause-keeps c =
+    let a = c.args.encoder.now in
+    let e = c.span_of.new.encoder in
+    keeps_grows a e (keeps_on a c.coming.new.encoder e c.in_ok-bad.ensures.keeps c.in_err-span.ensures.keeps)

@@ -3,7 +3,8 @@ use Rattle.std.proofs.lemmas.Int.{to_z-of_z}
 use Rattle.rsml_syntax.specs.declared.syntax.Spec.{Spec}
 use Rattle.rsml_meaning.specs.Cells.{cells}
 use Rattle.state_tree.proofs.Lists.{within_get}
-use Rattle.guard_encode.proofs.FindLemmas.{found_on}
+use Rattle.guard_encode.proofs.CellLemmas.{of_cell_on}
+use Rattle.guard_encode.proofs.StepLemmas.{keeps_on}
 use Rattle.group_verdicts.proofs.Keeping.{on_new, on_old, spec_of}
 use Rattle.world_columns.specs.declared.column.Span.{Span}
 use Rattle.world_columns.specs.Columns.{span}
@@ -43,10 +44,14 @@ lowest-requires-clause-order c =
 pub returns-clause-answer : goal.returns-clause-answer
 returns-clause-answer c = λ truth found none i at.
     let a = c.args.encoder.now in
+    let o = c.of_cell.new.self in
     let b = c.highest.new.encoder in
     let s = a.machine.base.spec in
     let cell = c.args.cell in
-    let keeps = c.in_ok-high.ensures.keeps in
+    let told = c.in_ok-told.told in
+    let first_keeps = c.in_ok-told.ensures.keeps in
+    let keeps = keeps_on a o b first_keeps c.in_ok-high.ensures.keeps in
+    let of = c.in_ok-told.ensures.answer truth found in
     let worlds : c.worlds-worlds.result.now ≡ s = spec_of a c.machine.result.now c.worlds-worlds.result.now c.worlds-worlds.ensures c.machine.ensures in
     let there = subst (λ (t : Spec). slice_get (cells t) cell ≡ Some i) (sym worlds) at in
     let own_fits : SFits w64 c.args.own = search rules in
@@ -63,11 +68,12 @@ returns-clause-answer c = λ truth found none i at.
     let high = c.in_ok-high.high in
     let low = c.in_ok-low.low in
     let up = subst (λ (m : ℤ). IsHighestEnd (λ n. NoneWithin s truth cell (span own n)) own m high high) last
-    (c.in_ok-high.ensures.answer truth found (subst (λ (n : ℤ). NoneWithin s truth cell (span n n)) (sym own_same) none)) in
+    (on_old (λ t. IsHighestEnd (λ n. NoneWithin t truth cell (span own n)) own (to_z w64 (of_z w64 c.high-last.result)) high high) a o first_keeps
+    (c.in_ok-high.ensures.answer truth of (on_new (λ t. NoneWithin t truth cell (span own own)) a o first_keeps (subst (λ (n : ℤ). NoneWithin s truth cell (span n n)) (sym own_same) none)))) in
     let held = subst (λ (n : ℤ). NoneWithin s truth cell (span own n)) (sym high_same) up.holds in
     let down = subst (λ (m : ℤ). IsLowestEnd (λ n. NoneWithin s truth cell (span n (to_z w64 (of_z w64 high)))) m own low low) first
     (on_old (λ t. IsLowestEnd (λ n. NoneWithin t truth cell (span n (to_z w64 (of_z w64 high)))) (to_z w64 (of_z w64 c.low-first.result)) own low low) a b keeps
-    (c.in_ok-low.ensures.answer truth (found_on a b truth c.args.bad keeps found) (on_new (λ t. NoneWithin t truth cell (span own (to_z w64 (of_z w64 high)))) a b keeps held))) in
+    (c.in_ok-low.ensures.answer truth (of_cell_on o b cell truth told c.in_ok-high.ensures.keeps of) (on_new (λ t. NoneWithin t truth cell (span own (to_z w64 (of_z w64 high)))) a b keeps held))) in
     let widest = range_asked s truth cell i c.args.own low high (c.requires.own i at)
     (subst (λ (m : ℤ). IsHighestEnd (λ n. NoneWithin s truth cell (span m n)) m i.numbers.high high high) own_same up)
     (subst (λ (m : ℤ). IsLowestEnd (λ n. NoneWithin s truth cell (span n m)) i.numbers.low c.args.own low low) high_same
