@@ -1,6 +1,8 @@
 //! What the run of an event file does not cover.
-use crate::telling::{tell_untried, tell_untrue};
+use crate::parts::{Heading, Part};
+use crate::telling::{put_of, tell_untried, tell_untrue_column, tell_untrue_part};
 use crate::written::{Written, alike_from, instances};
+use checked_notes::NODES;
 use coverage::Counts;
 use guard_encode::Encoder;
 use rsml_base::NoMemory;
@@ -43,6 +45,7 @@ struct Told {
     notes: usize,
     members: Sum,
     columns: Sum,
+    parts: Sum,
 }
 
 impl Told {
@@ -75,17 +78,36 @@ fn tell_written(
         let shown = written.tried(Some(column));
         told.columns.add(shown, all);
         if tried > 0 && shown == 0 && told.is_next() {
-            tell_untrue(notes, scene, encoder, written, column)?;
+            tell_untrue_column(notes, scene, encoder, written, column)?;
         }
     }
     Ok(())
 }
 
-/// Puts how many of so many there are.
-fn put_of(line: &mut Draft, count: usize, all: usize) {
-    put_number(line, count as u64);
-    line.put(b" of ");
-    put_number(line, all as u64);
+/// Tells whether a column of a macro, or a case of a function, was never true where it was asked for, if it was.
+fn tell_part(
+    notes: &mut Notes<'_>,
+    scene: &Scene<'_, '_>,
+    encoder: &mut Encoder<'_, '_>,
+    heading: Heading<'_, '_>,
+    parts: &[Part<'_>],
+    told: &mut Told,
+) -> Result<(), NoMemory> {
+    let mut instances = Vec::new(notes.alloc());
+    let mut shown: usize = 0;
+    for part in parts {
+        if part.was_asked && heading.has(*part) {
+            instances.push(part.columns)?;
+            shown = shown.saturating_add(usize::from(part.was_true));
+        }
+    }
+    if !instances.is_empty() {
+        told.parts.add(shown, instances.len());
+        if shown == 0 && told.is_next() {
+            tell_untrue_part(notes, scene, encoder, heading, instances.as_slice())?;
+        }
+    }
+    Ok(())
 }
 
 /// Tells a sum.
@@ -115,20 +137,31 @@ fn tell_sums(notes: &mut Notes<'_>, told: &Told) {
         b" transitions and cases of sends were tried",
     );
     tell_sum(notes, told.columns, b" columns were true");
+    if told.parts.of_written > 0 {
+        tell_sum(
+            notes,
+            told.parts,
+            b" columns of macros and cases of functions that were asked for were true",
+        );
+    }
 }
 
-/// Tells what is not covered, in the order of the text, and how much is.
+/// Tells what is not covered of transitions and cases of sends, and then of macros and functions, each in the order of the text; and how
+/// much is.
 pub fn tell_covered(
     notes: &mut Notes<'_>,
     scene: &Scene<'_, '_>,
-    encoder: &mut Encoder<'_, '_>,
     counts: &Counts<'_, '_>,
+    parts: &[Part<'_>],
 ) -> Result<(), NoMemory> {
+    let mut encoder = Encoder::new(notes.alloc(), scene.machine)?;
+    encoder.limit(NODES);
     let all = instances(notes.alloc(), scene)?;
     let mut told = Told {
         notes: 0,
         members: Sum::NONE,
         columns: Sum::NONE,
+        parts: Sum::NONE,
     };
     for place in 0..all.len() {
         if let Some(instances) = alike_from(all.as_slice(), place) {
@@ -137,7 +170,12 @@ pub fn tell_covered(
                 counts,
                 instances,
             };
-            tell_written(notes, scene, encoder, written, &mut told)?;
+            tell_written(notes, scene, &mut encoder, written, &mut told)?;
+        }
+    }
+    for part in parts {
+        if let Some(heading) = part.heading(scene) {
+            tell_part(notes, scene, &mut encoder, heading, parts, &mut told)?;
         }
     }
     tell_sums(notes, &told);

@@ -252,18 +252,16 @@ fn tell_line(notes: &mut Notes<'_>, decls: &[Decl], file: &[u8], number: u64, fa
             break;
         }
     }
-    match named(decls, name) {
-        Some(Decl::Receive { inputs, size, .. }) => {
-            let inputs = inputs.as_slice();
-            let spot = spot_of(decls, inputs, text, fault);
-            tell_spot(notes, file, number, spot, words_of(fault));
-            tell_form(notes, decls, name, size.as_ref(), inputs);
-        }
-        _ => {
-            let spot = spot_of(decls, &[], text, fault);
-            tell_spot(notes, file, number, spot, words_of(fault));
-            tell_receives(notes, decls);
-        }
+    let receive = named(decls, name);
+    let inputs = match receive {
+        Some(Decl::Receive { inputs, .. }) => inputs.as_slice(),
+        _ => &[],
+    };
+    let spot = spot_of(decls, inputs, text, fault);
+    tell_spot(notes, file, number, spot, words_of(fault));
+    match receive {
+        Some(Decl::Receive { size, .. }) => tell_form(notes, decls, name, size.as_ref(), inputs),
+        _ => tell_receives(notes, decls),
     }
 }
 

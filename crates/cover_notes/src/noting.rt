@@ -3,10 +3,10 @@ ghost use Rattle.source_notes.specs.Comments.{AreComments};
 
 use crate::covered::tell_covered;
 use crate::faults::tell_fault;
+use crate::parts::Part;
 use crate::subject::Subject;
-use checked_notes::NODES;
+use crate::watch::Watch;
 use coverage::{CountedFile, Counts};
-use guard_encode::Encoder;
 use instance_texts::Texts;
 use rsml_base::NoMemory;
 use rsml_names::Globals;
@@ -15,22 +15,12 @@ use source_notes::Notes;
 use std::alloc::Global;
 use written_members::{Scene, Source};
 
-/// Makes the diagrams of the machine, and tells what is not covered.
-fn tell_scene(
-    notes: &mut Notes<'_>,
-    scene: &Scene<'_, '_>,
-    counts: &Counts<'_, '_>,
-) -> Result<(), NoMemory> {
-    let mut encoder = Encoder::new(notes.alloc(), scene.machine)?;
-    encoder.limit(NODES);
-    tell_covered(notes, scene, &mut encoder, counts)
-}
-
 /// Tells what an event file does not cover that was read to its end.
 fn tell_subject(
     notes: &mut Notes<'_>,
     subject: Subject<'_, '_>,
     counts: &Counts<'_, '_>,
+    parts: &[Part<'_>],
 ) -> Result<(), NoMemory> {
     let decls = subject.checked.spec().decls.as_slice();
     let globals = Globals::new(notes.alloc(), decls)?;
@@ -43,33 +33,23 @@ fn tell_subject(
         decls,
         source: &source,
     };
-    tell_scene(notes, &scene, counts)
+    tell_covered(notes, &scene, counts, parts)
 }
 
-/// Comment lines on the specification, by what was counted of an event file that was read to its end.
-fn covered_notes(
-    alloc: Global,
-    subject: Subject<'_, '_>,
-    counts: &Counts<'_, '_>,
-) -> Result<Vec<u8>, NoMemory>
-    ensures { IfOk result (λ v. AreComments v.items) }
-{
-    let mut notes = Notes::new(alloc, subject.source.file, subject.source.text);
-    tell_subject(&mut notes, subject, counts)?;
-    notes.bytes()
-}
-
-/// Comment lines on what was counted of an event file of this name, by how that ended.
+/// Comment lines on what was counted of an event file of this name, by how that ended, and on what was seen of macros and functions.
 fn notes_on(
     alloc: Global,
     subject: Subject<'_, '_>,
     events: &[u8],
     counted: &CountedFile<'_, '_>,
+    parts: &[Part<'_>],
 ) -> Result<Vec<u8>, NoMemory>
     ensures { IfOk result (λ v. AreComments v.items) }
 {
     if let SimEnd::Ended { .. } = counted.end {
-        return covered_notes(alloc, subject, &counted.counts);
+        let mut notes = Notes::new(alloc, subject.source.file, subject.source.text);
+        tell_subject(&mut notes, subject, &counted.counts, parts)?;
+        return notes.bytes();
     }
     let mut notes = Notes::new(alloc, events, counted.line());
     let decls = subject.checked.spec().decls.as_slice();
@@ -90,17 +70,18 @@ fn refusal(alloc: Global) -> Vec<u8>
     }
 }
 
-/// Comment lines on what was counted of an event file of this name, of a specification: on the first fault of the file, or on what its run
-/// does not cover. Where memory for them is refused, one line says so, or none.
+/// Comment lines on what was counted of an event file of this name, of a specification, and on what a watch saw that heard its events: on
+/// the first fault of the file, or on what its run does not cover. Where memory for them is refused, one line says so, or none.
 pub fn cover_notes(
     alloc: Global,
     subject: Subject<'_, '_>,
     events: &[u8],
     counted: &CountedFile<'_, '_>,
+    watch: &Watch<'_, '_>,
 ) -> Vec<u8>
     ensures { AreComments result.items }
 {
-    match notes_on(alloc, subject, events, counted) {
+    match notes_on(alloc, subject, events, counted, watch.parts()) {
         Ok(notes) => notes,
         Err(NoMemory) => refusal(alloc),
     }

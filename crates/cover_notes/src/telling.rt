@@ -1,11 +1,15 @@
 //! What is told of a transition or case of a send.
-use crate::written::{Part, Written};
-use checked_notes::{cell_place, world_of_column};
+use crate::columns::Columns;
+use crate::parts::Heading;
+use crate::written::{By, Written};
+use checked_notes::{Asked, cell_place};
 use finding_notes::{tell_column, tell_example};
 use ground_groups::Member;
 use guard_encode::Encoder;
-use instance_texts::put_path;
+use instance_texts::{put_case_label, put_path};
 use rsml_base::NoMemory;
+use rsml_names::name_of;
+use rsml_syntax::Decl;
 use source_notes::Notes;
 use text_writer::{Draft, Writer, put_number};
 use written_members::{Scene, put_member, written_at};
@@ -18,6 +22,13 @@ fn put_send(line: &mut Draft, scene: &Scene<'_, '_>, number: u32) {
     if let Some(case) = scene.machine.all_send_cases().get(number as usize) {
         scene.texts.put_send(line, case.send());
     }
+}
+
+/// Puts how many of so many there are.
+pub fn put_of(line: &mut Draft, count: usize, all: usize) {
+    put_number(line, count as u64);
+    line.put(b" of ");
+    put_number(line, all as u64);
 }
 
 /// Puts how a transition or a case of a send is called.
@@ -41,34 +52,44 @@ fn put_taken(line: &mut Draft, scene: &Scene<'_, '_>, at: usize, words: &[u8], m
     });
 }
 
-/// Tells the least world in which a column is true, in the first of the instances in which there is one, or that there is none.
+/// Tells the least world in which one of the columns is true, in the first of the instances in which there is one, or that there is none.
 fn tell_world(
     notes: &mut Notes<'_>,
     scene: &Scene<'_, '_>,
     encoder: &mut Encoder<'_, '_>,
-    written: Written<'_, '_, '_, '_, '_>,
-    column: usize,
+    instances: &[Columns<'_>],
 ) -> Result<(), NoMemory> {
-    for place in 0..written.instances.len() {
-        if let Some(asked) = written.asked(place)
-            && let Some(world) = world_of_column(notes.alloc(), encoder, &asked, column)?
-        {
-            return tell_example(notes, scene, asked.rows, column, asked.source, &world);
+    for columns in instances {
+        if let Some((column, world)) = columns.world(notes.alloc(), encoder)? {
+            let Asked { rows, source } = columns.asked;
+            return tell_example(notes, scene, rows, column, source, &world);
         }
     }
     notes.say("in no world is it true: no event file covers it");
     Ok(())
 }
 
-/// Tells the same; where that would take too long, that it is not told.
-fn tell_if_soon(
+/// Tells a line, below it the columns of the first of these instances, behind whose offset their table is the first, and a world in which
+/// one of them is true; where that would take too long, that it is not told.
+fn tell_untrue(
     notes: &mut Notes<'_>,
     scene: &Scene<'_, '_>,
     encoder: &mut Encoder<'_, '_>,
-    written: Written<'_, '_, '_, '_, '_>,
-    column: usize,
+    line: Draft,
+    table: usize,
+    instances: &[Columns<'_>],
 ) -> Result<(), NoMemory> {
-    let told = tell_world(notes, scene, encoder, written, column);
+    notes.keep(line);
+    if let Some(first) = instances.first() {
+        for column in first.first..first.end {
+            if column > first.first {
+                notes.say("or");
+            }
+            let text = notes.text();
+            tell_column(notes, text, first.asked.rows, table, column)?;
+        }
+    }
+    let told = tell_world(notes, scene, encoder, instances);
     if told.is_err() && encoder.is_spent() {
         notes.say("whether it is true in some world is not told: it would take too long");
         return Ok(());
@@ -77,7 +98,7 @@ fn tell_if_soon(
 }
 
 /// Tells that a column of something that reacted was never true.
-pub fn tell_untrue(
+pub fn tell_untrue_column(
     notes: &mut Notes<'_>,
     scene: &Scene<'_, '_>,
     encoder: &mut Encoder<'_, '_>,
@@ -85,31 +106,57 @@ pub fn tell_untrue(
     column: usize,
 ) -> Result<(), NoMemory> {
     if let Some(member) = written.first()
-        && let Some(asked) = written.asked(0)
         && let Some(at) = written_at(scene, member)
     {
-        let text = scene.source.text();
         let mut line = notes.line("");
-        put_taken(
-            &mut line,
-            scene,
-            cell_place(text, at.table, column),
-            b"",
-            member,
-        );
-        line.put(b", but column ");
-        put_number(&mut line, column.saturating_add(1) as u64);
-        line.put(b" is never true");
+        let place = cell_place(notes.text(), at.table, column);
+        put_taken(&mut line, scene, place, b"", member);
+        line.put(b", but ");
+        put_never_true(&mut line, column);
         put_called(&mut line, scene, member);
-        notes.keep(line);
-        tell_column(notes, text, asked.rows, at.table, column)?;
-        tell_if_soon(notes, scene, encoder, written, column)?;
+        let instances = written.columns(notes.alloc(), column)?;
+        tell_untrue(notes, scene, encoder, line, at.table, instances.as_slice())?;
     }
     Ok(())
 }
 
+/// Puts that a column is never true.
+fn put_never_true(line: &mut Draft, column: usize) {
+    line.put(b"column ");
+    put_number(line, column.saturating_add(1) as u64);
+    line.put(b" is never true");
+}
+
+/// Tells that a column of a macro, or a case of a function, was never true where it was asked for, in none of these instances.
+pub fn tell_untrue_part(
+    notes: &mut Notes<'_>,
+    scene: &Scene<'_, '_>,
+    encoder: &mut Encoder<'_, '_>,
+    heading: Heading<'_, '_>,
+    instances: &[Columns<'_>],
+) -> Result<(), NoMemory> {
+    let Some(at) = heading.written_at(scene) else {
+        return Ok(());
+    };
+    let mut line = notes.line("");
+    scene.source.put_place(&mut line, at.at);
+    line.put(b"asked for, but ");
+    let (name, place) = (name_of(heading.decl), heading.part.place);
+    if let Decl::Macro { .. } = heading.decl {
+        put_never_true(&mut line, place as usize);
+        line.put(b": macro ");
+        line.put(name.bytes());
+    } else {
+        line.put(b"never true: function ");
+        line.put(name.bytes());
+        line.put(b" ");
+        put_case_label(&mut line, place.saturating_add(1));
+    }
+    tell_untrue(notes, scene, encoder, line, at.table, instances)
+}
+
 /// Puts the name of the element, or of the member of a bus, that an instance is of.
-fn put_part(line: &mut Draft, scene: &Scene<'_, '_>, member: Member, part: Part) {
+fn put_part(line: &mut Draft, scene: &Scene<'_, '_>, member: Member, by: By) {
     match member {
         Member::SendCase(number) => put_send(line, scene, number),
         Member::Transition(number) => {
@@ -117,9 +164,9 @@ fn put_part(line: &mut Draft, scene: &Scene<'_, '_>, member: Member, part: Part)
                 && let Some(path) = scene.machine.tree().states().path(transition.source())
                 && let Some((last, outer)) = path.split_last()
             {
-                match part {
-                    Part::Element => put_path(line, outer),
-                    Part::Source => line.put(last.name.bytes()),
+                match by {
+                    By::Element => put_path(line, outer),
+                    By::Source => line.put(last.name.bytes()),
                 }
             }
         }
@@ -132,21 +179,21 @@ fn tell_parts(
     notes: &mut Notes<'_>,
     scene: &Scene<'_, '_>,
     written: Written<'_, '_, '_, '_, '_>,
-    part: Part,
+    by: By,
 ) {
     let mut line = notes.line("  never ");
     let mut count: usize = 0;
     for place in 0..written.instances.len() {
         if let Some(member) = written.member(place)
-            && written.is_first_untried(place, part)
+            && written.is_first_untried(place, by)
         {
             if count < MOST_NAMED {
-                line.put(match (count, part) {
-                    (0, Part::Element) => b"in ",
-                    (0, Part::Source) => b"from ",
+                line.put(match (count, by) {
+                    (0, By::Element) => b"in ",
+                    (0, By::Source) => b"from ",
                     _ => b", ",
                 });
-                put_part(&mut line, scene, member, part);
+                put_part(&mut line, scene, member, by);
             }
             count = count.saturating_add(1);
         }
@@ -172,25 +219,18 @@ pub fn tell_untried(
         && let Some(at) = written_at(scene, member)
     {
         let mut line = notes.line("");
-        put_taken(
-            &mut line,
-            scene,
-            at.at,
-            if tried == 0 { b"never " } else { b"" },
-            member,
-        );
+        let words: &[u8] = if tried == 0 { b"never " } else { b"" };
+        put_taken(&mut line, scene, at.at, words, member);
         if tried > 0 {
             line.put(b" in ");
-            put_number(&mut line, tried as u64);
-            line.put(b" of ");
-            put_number(&mut line, written.instances.len() as u64);
+            put_of(&mut line, tried, written.instances.len());
             line.put(b" instances");
         }
         put_called(&mut line, scene, member);
         notes.keep(line);
         if tried > 0 {
-            tell_parts(notes, scene, written, Part::Source);
-            tell_parts(notes, scene, written, Part::Element);
+            tell_parts(notes, scene, written, By::Source);
+            tell_parts(notes, scene, written, By::Element);
         }
     }
 }

@@ -1,4 +1,4 @@
-use checked_notes::Asked;
+use crate::columns::Columns;
 use coverage::{Counts, Tally};
 use elaborate::Machine;
 use finding_notes::rows_of;
@@ -7,7 +7,7 @@ use rsml_base::NoMemory;
 use std::alloc::Global;
 use written_members::{Scene, guard_of, written_at};
 
-/// Where a transition or a case of a send begins in the text, and its number: those of cases come behind those of transitions.
+/// Where something begins in the text, and its number: of transitions and cases of sends, those of cases come behind those of transitions.
 pub type Instance = (usize, u32);
 
 /// The transition or the case of a send of a number.
@@ -45,7 +45,7 @@ fn count_at(instances: &[Instance], at: usize) -> usize {
     count
 }
 
-/// The instances of one transition or case as it is written, if they begin at this place.
+/// The instances of one that is written, if they begin at this place.
 pub fn alike_from(instances: &[Instance], place: usize) -> Option<&[Instance]> {
     let rest = instances.get(place..)?;
     let at = rest.first()?.0;
@@ -57,7 +57,7 @@ pub fn alike_from(instances: &[Instance], place: usize) -> Option<&[Instance]> {
 
 /// What an instance is one by: the element of an array that it is of, or the member of a bus from which it comes.
 #[derive(Clone, Copy, PartialEq, Eq)]
-pub enum Part {
+pub enum By {
     Element,
     Source,
 }
@@ -78,26 +78,24 @@ impl<'w, 'm, 'a, 'c, 'd> Written<'w, 'm, 'a, 'c, 'd> {
 
     /// The source of the instance at a place, of a transition.
     fn source(self, place: usize) -> Option<u32> {
-        match self.member(place)? {
-            Member::Transition(number) => {
-                Some(
-                    self.machine
-                        .all_transitions()
-                        .get(number as usize)?
-                        .source(),
-                )
-            }
-            _ => None,
-        }
+        let Member::Transition(number) = self.member(place)? else {
+            return None;
+        };
+        let transition = self.machine.all_transitions().get(number as usize)?;
+        Some(transition.source())
     }
 
-    /// What is asked of the instance at a place: the rows of its table, and its source.
-    pub fn asked(self, place: usize) -> Option<Asked<'m>> {
-        let guard = guard_of(self.machine, self.member(place)?)?;
-        Some(Asked {
-            rows: rows_of(guard),
-            source: self.source(place),
-        })
+    /// The column at a place of the tables of all instances.
+    pub fn columns(self, alloc: Global, column: usize) -> Result<Vec<Columns<'m>>, NoMemory> {
+        let mut all = Vec::new(alloc);
+        for place in 0..self.instances.len() {
+            if let Some(member) = self.member(place)
+                && let Some(guard) = guard_of(self.machine, member)
+            {
+                all.push(Columns::one(rows_of(guard), self.source(place), column))?;
+            }
+        }
+        Ok(all)
     }
 
     /// What was counted of the instance at a place.
@@ -143,27 +141,27 @@ impl<'w, 'm, 'a, 'c, 'd> Written<'w, 'm, 'a, 'c, 'd> {
     }
 
     /// A number that is the same for the instances of one element, or from one member of a bus.
-    fn key(self, place: usize, part: Part) -> Option<u32> {
+    fn key(self, place: usize, by: By) -> Option<u32> {
         let Some(source) = self.source(place) else {
             return match self.member(place)? {
-                Member::SendCase(number) if part == Part::Element => {
+                Member::SendCase(number) if by == By::Element => {
                     Some(self.machine.all_send_cases().get(number as usize)?.send())
                 }
                 _ => None,
             };
         };
         let component = self.machine.tree().states().parent(source)?;
-        Some(match part {
-            Part::Element => component,
-            Part::Source => source.saturating_sub(component),
+        Some(match by {
+            By::Element => component,
+            By::Source => source.saturating_sub(component),
         })
     }
 
     /// Whether the instance at a place is the first of its element, or of its member of a bus, and none of these reacted.
-    pub fn is_first_untried(self, place: usize, part: Part) -> bool {
-        let key = self.key(place, part);
+    pub fn is_first_untried(self, place: usize, by: By) -> bool {
+        let key = self.key(place, by);
         for other in 0..self.instances.len() {
-            if self.key(other, part) == key && (other < place || self.is_tried(other, None)) {
+            if self.key(other, by) == key && (other < place || self.is_tried(other, None)) {
                 return false;
             }
         }

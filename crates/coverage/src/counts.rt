@@ -18,6 +18,7 @@ ghost use Rattle.coverage.specs.Steps.{HasRoom, StepIsCounted};
 ghost use Rattle.coverage.specs.Text.{coverage_text};
 
 use crate::counter::Counter;
+use crate::listener::Listener;
 use crate::rounds::{count_sent, count_taken};
 use crate::tally::Tally;
 use crate::texts::{put_cases, put_name, put_sums, put_transitions, zeros};
@@ -165,10 +166,11 @@ impl<'m, 'a> Counts<'m, 'a> {
     }
 
     /// Follows an event file from its beginning, and counts the rounds of each event, until there is none left, a line has a fault, or a
-    /// read is refused. The simulation is new, and of the same specification. It takes no memory.
-    pub fn fill<F: Files>(
+    /// read is refused. The simulation is new, and of the same specification. It takes no memory. The listener hears each event.
+    pub fn fill<F: Files, L: Listener>(
         &mut self,
         simulator: &mut Simulator<'_, '_>,
+        listener: &mut L,
         files: &mut F,
         name: &str,
     ) -> SimEnd
@@ -196,7 +198,10 @@ impl<'m, 'a> Counts<'m, 'a> {
     {
         'events: loop {
             match simulator.next_event(files, name) {
-                Upcoming::Event { .. } => self.count_step(simulator),
+                Upcoming::Event { .. } => {
+                    listener.hear(simulator.line());
+                    self.count_step(simulator);
+                }
                 answer => return end_by(answer),
             }
         }

@@ -8,6 +8,7 @@ ghost use Rattle.coverage.specs.Text.{covers};
 
 use crate::counted_file::CountedFile;
 use crate::counts::Counts;
+use crate::listener::Listener;
 use elaborate::Machine;
 use event_file::Limits;
 use instance_texts::Texts;
@@ -39,12 +40,13 @@ fn put_output<W: Writer>(
 }
 
 /// Counts the run of an event file of a certified specification, and writes what it covers; or the line of the first fault of the file.
-/// All memory is taken before the file is read.
-pub fn cover<'m, 'a, F: Files, K: Sink>(
+/// All memory is taken before the file is read. The listener hears each event.
+pub fn cover<'m, 'a, F: Files, K: Sink, L: Listener>(
     alloc: Global,
     checked: &'a Checked,
     machine: &'m Machine<'a>,
     limits: Limits,
+    listener: &mut L,
     files: &mut F,
     name: &str,
     sink: &mut K,
@@ -74,7 +76,7 @@ pub fn cover<'m, 'a, F: Files, K: Sink>(
     let mut counts = Counts::new(alloc, machine)?;
     let texts = Texts::build(alloc, checked)?;
     let mut buffer = Buffer::new(alloc, ROOM)?;
-    let end = counts.fill(&mut simulator, files, name);
+    let end = counts.fill(&mut simulator, listener, files, name);
     let mut out = BufferedSink::new(sink, &mut buffer);
     put_output(&mut out, checked, &texts, &counts, end);
     if out.finish() {
