@@ -26,7 +26,7 @@ pub fit_front : (a b : Tokens) → Fit (a ++ b) → Fit a
 fit_front [] b fit = refl
 fit_front (t ∷ a) b fit = (fit.0, fit_front a b fit.1)
 
-fit_both : (a b : Tokens) → Fit a → Fit b → Fit (a ++ b)
+pub fit_both : (a b : Tokens) → Fit a → Fit b → Fit (a ++ b)
 fit_both [] b one two = two
 fit_both (t ∷ a) b one two = (one.0, fit_both a b one.1 two)
 
@@ -88,7 +88,7 @@ not_within ts front t a e h c =
     not_both (whole room (tokens_of c.0)) (c.0, []) (true, t ∷ c.1) (whole_again room c.0 (good_of 16 c.0 c.2 c.3))
     (ap (whole room) (c.4 ∙ append_assoc front (t ∷ []) c.1) ∙ (form_whole room).fails front t a c.1 true [] (sym (ap (whole room) e) ∙ h))
 
-place_is : (ts front left : Tokens) → ts ≡ front ++ left → token_place ts left ≡ length front + 1
+pub place_is : (ts front left : Tokens) → ts ≡ front ++ left → token_place ts left ≡ length front + 1
 place_is ts front left e = let n = ap length e in let m = length-append front left in omega (arith, n, m)
 
 pub syntax_fault : (ts left : Tokens) → Fit ts → whole room ts ≡ Err (false, left) → IsSyntaxFault ts (token_place ts left)

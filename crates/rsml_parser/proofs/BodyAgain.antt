@@ -17,7 +17,7 @@ use Rattle.rsml_syntax.specs.declared.syntax.Bus.{Bus}
 use Rattle.rsml_syntax.specs.declared.syntax.StateDecl.{StateDecl}
 use Rattle.rsml_syntax.specs.declared.syntax.Transition.{Transition}
 use Rattle.rsml_parser.specs.Parsers.{Parser, and_then, first, sees_word, word, mark, name, many, until}
-use Rattle.rsml_parser.specs.States.{bus, transition, opens_state, plain_state, array_of_states, child, one_of, all_of, body_of, no_children, children, body}
+use Rattle.rsml_parser.specs.States.{bus, transition, opens_state, child, body_of, no_children, children, body}
 use Rattle.rsml_parser.proofs.BodyForms.{shrinks_child}
 use Rattle.rsml_parser.proofs.BodyLists.{kind, good_body, good_state, in_all, in_one, no_depth, tokens_of_all, tokens_of_one}
 use Rattle.rsml_parser.proofs.MentionForms.{bracketed_amount_again}

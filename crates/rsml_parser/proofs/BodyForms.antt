@@ -13,7 +13,7 @@ use Rattle.rsml_syntax.specs.declared.syntax.Amount.TheVariants as amounts
 use Rattle.rsml_syntax.specs.declared.syntax.Body.{Body, Basic, One, All}
 use Rattle.rsml_syntax.specs.declared.syntax.StateDecl.{StateDecl}
 use Rattle.rsml_parser.specs.Parsers.{Stop, Parser, first, many}
-use Rattle.rsml_parser.specs.States.{opens_state, plain_state, array_of_states, child, one_of, all_of, body_of, no_children, children, body}
+use Rattle.rsml_parser.specs.States.{opens_state, child, body_of, no_children, children, body}
 use Rattle.rsml_parser.proofs.BodyLists.{good_body, good_state, basic_is_good, all_is_good, one_is_good, tokens_of_all, tokens_of_one}
 use Rattle.rsml_parser.proofs.Forms.{Fit, Shares, Spelled, Form, none_yet, past, same_first, form_bind, form_pure, form_as, form_if}
 use Rattle.rsml_parser.proofs.Leaves.{is_known_word, underscore, form_word, form_mark, form_name}

@@ -11,15 +11,16 @@ use Rattle.rsml_syntax.specs.declared.token.Word.{Word}
 use Rattle.rsml_syntax.specs.declared.token.Word.TheVariants as words
 use Rattle.rsml_syntax.specs.declared.syntax.Body.{Body}
 use Rattle.rsml_syntax.specs.declared.syntax.StateDecl.{StateDecl}
-use Rattle.rsml_parser.specs.Declarations.{case_of, value, answer, send_case, enumeration, range, constant, input, event, macro_table, function, receive, send, declaration}
-use Rattle.rsml_parser.specs.Mentions.{minus, signed, amount, bracketed_amount, size, index, bracketed_index, indexed, mention, initial}
+use Rattle.rsml_parser.specs.Claims.{whole_claims}
+use Rattle.rsml_parser.specs.Declarations.{case_of, answer, send_case, enumeration, range, constant, input, event, macro_table, function, receive, send, declaration}
+use Rattle.rsml_parser.specs.Mentions.{minus, signed, amount, bracketed_amount, size, index, indexed, mention, initial}
 use Rattle.rsml_parser.specs.Parsers.{Parser, ◌>>=◌, pure, choose, first, of_first, word, mark, name, seen_name, number, seen_number, end, many_from, many, and_more, separated, until, in_parentheses}
-use Rattle.rsml_parser.specs.Phrases.{path, of_macro, of_function, comparison, simple, quantified, phrase}
-use Rattle.rsml_parser.specs.States.{bus, movement, raises, transition, opens_state, plain_state, array_of_states, child, one_of, all_of, body_of, no_children, children, body, specification, whole}
-use Rattle.rsml_parser.specs.Sums.{operand, first_term, sign, later_term, sum, relation}
-use Rattle.rsml_parser.specs.Tables.{cell, row, table, guard, when_guard}
+use Rattle.rsml_parser.specs.Phrases.{simple, quantified, phrase}
+use Rattle.rsml_parser.specs.States.{bus, movement, raises, transition, opens_state, child, body_of, no_children, children, whole}
+use Rattle.rsml_parser.specs.Sums.{operand, first_term, later_term, sum, relation}
+use Rattle.rsml_parser.specs.Tables.{cell, row, table, when_guard}
 use Rattle.rsml_parser.proofs.Leaves.{form_word, form_mark, form_name, form_number, found_err}
-use Rattle.rsml_parser.proofs.Outcomes.{same_ok, same_err, bind_ok, bind_err, chosen}
+use Rattle.rsml_parser.proofs.Outcomes.{same_ok, same_err, bind_ok, bind_err, chosen, cancel}
 
 -- how many braces are open after some tokens, of those that are open before them
 abbrev pub after : ℕ → Tokens → ℕ
@@ -310,3 +311,18 @@ unfolding whole
 of_whole room deep is = bind
     (bind (of_word words.Specification) (λ _. bind of_name (λ n. bind (of_mark marks.Semicolon) (λ _. bind (of_many _ of_declaration) (λ ds.
     bind (of_word words.State) (λ _. bind of_name (λ top. bind (of_body_of (of_children room 1 deep (omega (arith, is)))) (λ b. done _)))))))) (λ s. bind of_end (λ _. done s))
+
+-- Claims.
+
+of_claims : {level deep : ℕ} → Braces whole_claims level level deep
+unfolding whole_claims
+of_claims = bind (of_many _ (bind (of_word words.Macro) (λ _. bind of_name (λ n. bind of_table (λ rows. done _))))) (λ cs. bind of_end (λ _. done cs))
+
+-- no state opens in claims, so none opens too many, whatever the number of braces that are open there
+pub none_deep : (ts rest : Tokens) → whole_claims ts ≡ Err (true, rest) → ⊥
+none_deep ts rest h =
+    let one = ((of_claims {level = 0} {deep = 0}).stops ts rest h).0 in
+    let two = ((of_claims {level = 0} {deep = 1}).stops ts rest h).0 in
+    let front = cancel one.front two.front rest (sym one.split ∙ two.split) in
+    let level : 0 ≡ 1 = sym one.level ∙ ap (after 0) front ∙ two.level in
+    omega (arith, level)

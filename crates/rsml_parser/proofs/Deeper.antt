@@ -11,7 +11,7 @@ use Rattle.rsml_syntax.specs.declared.syntax.StateDecl.{StateDecl}
 use Rattle.rsml_parser.specs.Declarations.{declaration}
 use Rattle.rsml_parser.specs.Mentions.{bracketed_amount}
 use Rattle.rsml_parser.specs.Parsers.{Parser, ◌>>=◌, ◌>>◌, pure, choose, first, word, mark, name, end, many_from, many, until}
-use Rattle.rsml_parser.specs.States.{bus, transition, opens_state, plain_state, array_of_states, child, one_of, all_of, body_of, no_children, children, body, opens_declaration, specification, whole}
+use Rattle.rsml_parser.specs.States.{bus, transition, opens_state, child, body_of, no_children, children, opens_declaration, whole}
 use Rattle.rsml_parser.proofs.Outcomes.{same_err, bind_ok, bind_err, then_ok, then_err, chosen, takes_first, takes_second}
 
 -- what q reads is what p reads, but where p has too little room

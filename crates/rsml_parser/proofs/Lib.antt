@@ -24,3 +24,6 @@ pub mod SpecificationLemmas
 pub mod Braces
 pub mod OneAnswer
 pub mod DeepLemmas
+pub mod ClaimForms
+pub mod ClaimAnswers
+pub mod JoinLemmas

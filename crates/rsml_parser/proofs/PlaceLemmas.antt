@@ -7,7 +7,7 @@ use Rattle.rsml_syntax.specs.declared.token.Token.{Token}
 
 -- Two ways to cut a list: one front goes on in the other.
 
-cut_again : (f r g s : Tokens) → f ++ r ≡ g ++ s → ((m : Tokens) × (g ≡ f ++ m) × (r ≡ m ++ s)) ⊎ ((t : Token) × (m : Tokens) × (f ≡ g ++ t ∷ m) × (s ≡ (t ∷ m) ++ r))
+pub cut_again : (f r g s : Tokens) → f ++ r ≡ g ++ s → ((m : Tokens) × (g ≡ f ++ m) × (r ≡ m ++ s)) ⊎ ((t : Token) × (m : Tokens) × (f ≡ g ++ t ∷ m) × (s ≡ (t ∷ m) ++ r))
 cut_again [] r g s h = inl (g, refl, h)
 cut_again (t ∷ f) r [] s h = inr (t, f, refl, sym h)
 cut_again (t ∷ f) r (u ∷ g) s h =

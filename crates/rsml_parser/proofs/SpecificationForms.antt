@@ -62,7 +62,7 @@ reads_all room ts s rest h =
 
 -- What is spelled is read again.
 
-declarations_again : (ds : List Decl) (rest : Tokens) → IsTrue (list_all declaration_has_items ds) → let more = put.word words.State rest in
+pub declarations_again : (ds : List Decl) (rest : Tokens) → IsTrue (list_all declaration_has_items ds) → let more = put.word words.State rest in
     many (first opens_declaration) declaration (put.each put.declaration ds more) ≡ Ok (ds, more)
 declarations_again ds rest good =
     many_again opens_declaration declaration put.declaration declaration_has_items (λ _. ⊤) (λ d r is _. declaration_again d r is) (λ d r _. begins d r) (λ _ _ _. tt) item_declaration.shrinks ds _ good tt refl

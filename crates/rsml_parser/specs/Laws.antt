@@ -11,6 +11,9 @@ use Rattle.rsml_syntax.specs.grammar.Places.{Reads, IsTokensOf, IsSyntaxFault, I
 use Rattle.rsml_syntax.specs.grammar.WellFormed.{WellFormed, nests, deepest}
 use Rattle.rsml_syntax.specs.declared.syntax.Spec.{Spec}
 use Rattle.rsml_syntax.specs.text.Tokens.{Tokens, AreTokens}
+use Rattle.claim_syntax.specs.declared.claim.Claim.{Claim}
+use Rattle.claim_syntax.specs.Grammar.{claims_tokens, AreWellFormed}
+use Rattle.claim_syntax.specs.Joined.{joined}
 
 -- two specifications with the same tokens are the same, however deep they nest
 abbrev pub IsUnambiguous : Type 0
@@ -40,3 +43,11 @@ HasOneAnswer = (ts : Tokens) → AreTokens editions.Second ts →
 abbrev pub OpensInsideSixteen : Type 0
 OpensInsideSixteen = (ts : Tokens) (place : ℕ) (deep : IsDepthPlace ts place) →
     ((deep.token ≡ token.Word words.State) ⊎ (deep.token ≡ token.Word words.Array)) × (open_braces deep.before ≡ deepest)
+
+-- claims with the same tokens are the same
+abbrev pub ClaimsAreUnambiguous : Type 0
+ClaimsAreUnambiguous = (cs ds : List Claim) → AreWellFormed cs → AreWellFormed ds → claims_tokens cs ≡ claims_tokens ds → cs ≡ ds
+
+-- the grammar can write the joined specification where it can write the specification and the claims
+abbrev pub JoinedIsWellFormed : Type 0
+JoinedIsWellFormed = (s : Spec) (cs : List Claim) → WellFormed s → AreWellFormed cs → WellFormed (joined s cs)

@@ -6,4 +6,5 @@ pub mod Tables
 pub mod Declarations
 pub mod States
 pub mod Answers
+pub mod Claims
 pub mod Laws

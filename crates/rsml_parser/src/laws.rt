@@ -1,4 +1,4 @@
-ghost use Rattle.rsml_parser.specs.Laws.{IsUnambiguous, AtMostOneSpecification, LayoutReadsAgain, HasOneAnswer, OpensInsideSixteen};
+ghost use Rattle.rsml_parser.specs.Laws.{IsUnambiguous, AtMostOneSpecification, LayoutReadsAgain, HasOneAnswer, OpensInsideSixteen, ClaimsAreUnambiguous, JoinedIsWellFormed};
 
 /// No specification has a second reading: its tokens are those of no other.
 pub fn grammar_is_unambiguous()
@@ -24,4 +24,14 @@ pub fn tokens_have_one_answer()
 /// A token that opens a state too many is `state` or `array`, and 16 braces are open before it: those of 16 states.
 pub fn deep_token_opens_inside_sixteen()
     ensures { OpensInsideSixteen }
+{}
+
+/// No claims have a second reading: their tokens are those of no others.
+pub fn claims_are_unambiguous()
+    ensures { ClaimsAreUnambiguous }
+{}
+
+/// A well-formed specification with well-formed claims after its declarations is well-formed.
+pub fn joined_is_well_formed()
+    ensures { JoinedIsWellFormed }
 {}

@@ -4,7 +4,7 @@ ghost use Rattle.rsml_parser.specs.Parsers as spec;
 ghost use Rattle.rsml_parser.specs.Parsers.{Gives};
 
 use rsml_syntax::{Mark, NoMemory, Placed, Text, Token, Word};
-use std::alloc::Global;
+use std::alloc::{AllocFailed, Global};
 use std::marker::Model;
 
 /// Why reading stops. A fault stands at the first token that is left.
@@ -23,6 +23,16 @@ impl From<NoMemory> for Fault {
     ghost from_gives = { λ _ fault. fault ≡ NoMemory };
 
     fn from(_error: NoMemory) -> Fault {
+        Fault::NoMemory
+    }
+}
+
+impl<T: Drop> From<AllocFailed<T>> for Fault {
+    ghost use Rattle.rsml_parser.specs.declared.reader.Fault.TheVariants.{NoMemory};
+
+    ghost from_gives = { λ _ fault. fault ≡ NoMemory };
+
+    fn from(_error: AllocFailed<T>) -> Fault {
         Fault::NoMemory
     }
 }

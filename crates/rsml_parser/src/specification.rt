@@ -72,7 +72,7 @@ fn whole(alloc: Global, reader: &mut Reader<'_>) -> Result<Spec, Fault>
 
 /// The place of the first token that is left, counted from 1.
 #[tactic(auto, using(crate::proofs::CodeLemmas::length_bare))]
-fn place(tokens: &[Placed], reader: &Reader<'_>) -> u32
+pub fn place(tokens: &[Placed], reader: &Reader<'_>) -> u32
     requires few { length tokens.now ≤ MOST_TOKENS }
     requires left { length reader.now ≤ length tokens.now }
     ensures { result ≡ token_place (bare tokens.now) reader.now }
