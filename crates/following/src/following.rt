@@ -9,7 +9,7 @@ use crate::noting::explain_cover;
 use crate::starting::{Start, start_in};
 use answering::{Status, answer};
 use cover_notes::{Source, Subject};
-use coverage::cover;
+use coverage::{Deaf, cover};
 use elaborate::elaborate;
 use rsml_io::{Files, Sink};
 use rsml_syntax::{Checked, NoMemory};
@@ -54,10 +54,15 @@ fn follow_certified<F: Files, K: Sink>(
             Ok(simulator) => status_of(simulator.run(files, events, sink)),
             Err(NoMemory) => Status::NoMemory,
         },
-        EventAction::Cover => match cover(alloc, checked, &machine, LIMITS, files, events, sink) {
-            Ok(counted) => status_of(counted.end),
-            Err(NoMemory) => Status::NoMemory,
-        },
+        EventAction::Cover => {
+            let mut deaf = Deaf;
+            match cover(
+                alloc, checked, &machine, LIMITS, &mut deaf, files, events, sink,
+            ) {
+                Ok(counted) => status_of(counted.end),
+                Err(NoMemory) => Status::NoMemory,
+            }
+        }
         EventAction::ExplainCover => {
             let subject = Subject {
                 source,

@@ -5,7 +5,7 @@ ghost use Rattle.following.specs.declared.event_action.EventAction.TheVariants a
 
 use crate::ends::{LIMITS, status_of};
 use answering::{Status, finish};
-use cover_notes::{Subject, cover_notes};
+use cover_notes::{Subject, Watch, cover_notes};
 use coverage::cover;
 use rsml_io::{Files, Sink};
 use rsml_syntax::NoMemory;
@@ -45,7 +45,13 @@ pub fn explain_cover<F: Files, K: Sink>(
         machine,
         ..
     } = subject;
-    let counted = match cover(alloc, checked, machine, LIMITS, files, events, sink) {
+    let mut watch = match Watch::new(alloc, subject) {
+        Ok(watch) => watch,
+        Err(NoMemory) => return Status::NoMemory,
+    };
+    let counted = match cover(
+        alloc, checked, machine, LIMITS, &mut watch, files, events, sink,
+    ) {
         Ok(counted) => counted,
         Err(NoMemory) => return Status::NoMemory,
     };
@@ -53,7 +59,7 @@ pub fn explain_cover<F: Files, K: Sink>(
         SimEnd::ReadFault => Status::ReadFault,
         SimEnd::WriteFault => Status::WriteFault,
         end => {
-            let notes = cover_notes(alloc, subject, events.as_bytes(), &counted);
+            let notes = cover_notes(alloc, subject, events.as_bytes(), &counted, &watch);
             finish(sink, notes.as_slice(), status_of(end))
         }
     }

@@ -15,7 +15,7 @@ use std::alloc::Global;
 use world_columns::{GroupGaps, column_laws};
 
 /// How `gaps` ends, by what is told of each group.
-fn status_of(told: &[GroupGaps]) -> Status
+pub(crate) fn status_of(told: &[GroupGaps]) -> Status
     ensures { result ≡ spec.status_of told.now }
 {
     if unsound(told) == 0 {

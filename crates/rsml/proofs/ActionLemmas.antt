@@ -20,6 +20,7 @@ use Rattle.explaining.proofs.ExplainLemmas.{explains_texts}
 use Rattle.gapping.specs.Outputs.{GapsOutput, tabulated}
 use Rattle.gapping.specs.Outputs as gapping
 use Rattle.gapping.proofs.GapLemmas.{gaps_texts, told_status}
+use Rattle.gapping.proofs.ExplainedLemmas.{explained_gaps_texts}
 use Rattle.following.specs.declared.event_action.EventAction.{EventAction}
 use Rattle.rsml.specs.Commands.{Command, act, follow, specification_file, Names}
 use Rattle.rsml.specs.Commands as commands
@@ -35,6 +36,7 @@ acts_texts action.Explain = explains_texts
 acts_texts action.Format = formats_texts
 acts_texts action.Migrate = migrates_texts
 acts_texts (action.Gaps most) = gaps_texts most
+acts_texts (action.ExplainGaps most) = explained_gaps_texts most
 
 -- what it came to on its file, by the text that was read, or by why it was not
 pub action_came : (does : Action) (f : FileUse) (text shown : Bytes) (r : Result Outcome NoMemory) → IfSome f.told (λ told. text ≡ told) → shown ≡ text
@@ -87,6 +89,7 @@ of_action action.Explain file text answer bytes h = of_check text answer h.repor
 of_action action.Format file text answer bytes h = of_format text answer bytes h
 of_action action.Migrate file text answer bytes h = of_migrate text answer bytes h
 of_action (action.Gaps most) file text answer bytes h = of_gaps most text answer bytes h
+of_action (action.ExplainGaps most) file text answer bytes h = of_gaps most text answer h.report h.reported
 
 -- those of a file that is too long, of refused reads and writes, and of memory
 pub long_is : (does : Action) (file : Bytes) → Contains (answers_of (act does file)) status.TooLong
@@ -95,6 +98,7 @@ long_is action.Explain file = (3, lit< tt, refl)
 long_is action.Format file = (2, lit< tt, refl)
 long_is action.Migrate file = (2, lit< tt, refl)
 long_is (action.Gaps most) file = (3, lit< tt, refl)
+long_is (action.ExplainGaps most) file = (3, lit< tt, refl)
 
 pub read_is : (does : Action) (file : Bytes) → Contains (answers_of (act does file)) status.ReadFault
 read_is action.Check file = (4, lit< tt, refl)
@@ -102,6 +106,7 @@ read_is action.Explain file = (4, lit< tt, refl)
 read_is action.Format file = (3, lit< tt, refl)
 read_is action.Migrate file = (3, lit< tt, refl)
 read_is (action.Gaps most) file = (4, lit< tt, refl)
+read_is (action.ExplainGaps most) file = (4, lit< tt, refl)
 
 pub write_is : (does : Action) (file : Bytes) → Contains (answers_of (act does file)) status.WriteFault
 write_is action.Check file = (5, lit< tt, refl)
@@ -109,6 +114,7 @@ write_is action.Explain file = (5, lit< tt, refl)
 write_is action.Format file = (4, lit< tt, refl)
 write_is action.Migrate file = (4, lit< tt, refl)
 write_is (action.Gaps most) file = (5, lit< tt, refl)
+write_is (action.ExplainGaps most) file = (5, lit< tt, refl)
 
 pub memory_is : (does : Action) (file : Bytes) → Contains (answers_of (act does file)) status.NoMemory
 memory_is action.Check file = (6, lit< tt, refl)
@@ -116,6 +122,7 @@ memory_is action.Explain file = (6, lit< tt, refl)
 memory_is action.Format file = (5, lit< tt, refl)
 memory_is action.Migrate file = (5, lit< tt, refl)
 memory_is (action.Gaps most) file = (6, lit< tt, refl)
+memory_is (action.ExplainGaps most) file = (6, lit< tt, refl)
 
 -- The files that a command names.
 

@@ -9,7 +9,7 @@ use Rattle.std.proofs.lemmas.List.{drop_all, drop_more}
 use Rattle.rsml_meaning.specs.EventLines.{Bytes, digits_number}
 use Rattle.rsml_syntax.specs.text.Names.{same}
 use Rattle.following.specs.declared.event_action.EventAction.{EventAction}
-use Rattle.rsml.specs.Commands.{Command, act, follow, demo, version, command_of, with_file, with_files, with_columns, action_of, event_action_of, explained_action_of, IsCounted, AreCounted}
+use Rattle.rsml.specs.Commands.{Command, act, follow, demo, version, command_of, with_file, with_files, with_columns, with_explained_columns, explains_gaps, action_of, event_action_of, explained_action_of, IsCounted, AreCounted}
 use Rattle.rsml.specs.Counts.{most, within, count_of}
 use Rattle.rsml.specs.declared.command.Action.{Action}
 use Rattle.rsml.specs.declared.command.Action.TheVariants as action
@@ -133,5 +133,10 @@ are_counted (word ∷ file ∷ events ∷ []) c e = by (same word (codes "gaps")
         → AreCounted c
     by true f = of_count AreCounted (with_columns file) 99 events c (count_of 99 events) refl (λ n h. h) f
     by false f = of_events AreCounted file events c (event_action_of word) (λ does. tt) f
-are_counted (first ∷ word ∷ file ∷ events ∷ []) c e = of_events AreCounted file events c (explained_action_of first word) (λ does. tt) e
+are_counted (first ∷ word ∷ file ∷ events ∷ []) c e = by (explains_gaps first word) e
+  where
+    by : (b : Bool) → (if b then option_map (with_explained_columns file) (count_of 99 events) else option_map (with_files file events) (explained_action_of first word)) ≡ Some c
+        → AreCounted c
+    by true f = of_count AreCounted (with_explained_columns file) 99 events c (count_of 99 events) refl (λ n h. h) f
+    by false f = of_events AreCounted file events c (explained_action_of first word) (λ does. tt) f
 are_counted (first ∷ word ∷ file ∷ events ∷ more ∷ words) c e = absurd (let no : ⊥ = cc in no)

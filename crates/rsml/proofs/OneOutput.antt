@@ -25,11 +25,12 @@ use Rattle.following.specs.Outputs.{EventOutput, FollowOutput, status_of, texts_
 use Rattle.following.specs.Outputs as following
 use Rattle.following.specs.declared.event_action.EventAction.{EventAction}
 use Rattle.following.specs.declared.event_action.EventAction.TheVariants as event_action
+use Rattle.gapping.specs.Explained.{ExplainGapsOutput}
 use Rattle.gapping.proofs.OneGaps.{one_gaps}
 use Rattle.demonstrating.specs.Summary.{IsSummary}
 use Rattle.demonstrating.proofs.SummaryLemmas.{one_summary}
 use Rattle.rsml.specs.Commands.{Command, act, follow, demo, version, command_of}
-use Rattle.rsml.specs.Laws.{OutputIsOne, AreSame, whole, explained, explained_cover}
+use Rattle.rsml.specs.Laws.{OutputIsOne, AreSame, whole, explained, explained_cover, explained_gaps}
 use Rattle.rsml.specs.Output.{ActionOutput, no_command, acted, demonstrated, versioned}
 use Rattle.rsml.specs.Output as output
 use Rattle.rsml.specs.Version.{version_text}
@@ -96,6 +97,12 @@ module _ (faults : AtMostOneFirstFault) (lists : AtMostOneTokenList) (never : Ne
       let same = one_check faults lists never answers one text a b o.report p.report o.reported p.reported in
       (same.0, explained file o.report o.notes p.notes is o.split (p.split ∙ ap (λ zs. zs ++ p.notes) (sym same.1)) o.comments p.comments)
 
+  one_explained_gaps : GapsAreOne → (most : ℕ) (words : List Bytes) (file text : Bytes) → command_of words ≡ Some (act (action.ExplainGaps most) file)
+      → (a b : Status) (xs ys : Bytes) → ExplainGapsOutput most text a xs → ExplainGapsOutput most text b ys → (a ≡ b) × AreSame words xs ys
+  one_explained_gaps gaps most words file text is a b xs ys o p =
+      let same = one_gaps gaps faults lists never answers most text a b o.report p.report o.reported p.reported in
+      (same.0, explained_gaps most file o.report o.notes p.notes is o.split (p.split ∙ ap (λ zs. zs ++ p.notes) (sym same.1)) o.comments p.comments)
+
   one_action : ReportIsOne → GapsAreOne → (does : Action) (words : List Bytes) (file text : Bytes) → command_of words ≡ Some (act does file)
       → (a b : Status) (xs ys : Bytes) → ActionOutput does text a xs → ActionOutput does text b ys → (a ≡ b) × AreSame words xs ys
   one_action one gaps action.Check words file text is a b xs ys o p = are_same words a b xs ys (one_check faults lists never answers one text a b xs ys o p)
@@ -103,6 +110,7 @@ module _ (faults : AtMostOneFirstFault) (lists : AtMostOneTokenList) (never : Ne
   one_action one gaps action.Format words file text is a b xs ys o p = are_same words a b xs ys (one_format faults lists never answers text a b xs ys o p)
   one_action one gaps action.Migrate words file text is a b xs ys o p = are_same words a b xs ys (one_migrate faults lists never answers text a b xs ys o p)
   one_action one gaps (action.Gaps most) words file text is a b xs ys o p = are_same words a b xs ys (one_gaps gaps faults lists never answers most text a b xs ys o p)
+  one_action one gaps (action.ExplainGaps most) words file text is a b xs ys o p = one_explained_gaps gaps most words file text is a b xs ys o p
 
   -- Commands.
 

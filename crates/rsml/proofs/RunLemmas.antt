@@ -23,6 +23,8 @@ use Rattle.following.specs.declared.event_action.EventAction.TheVariants as even
 use Rattle.following.proofs.NoteLemmas.{shown_as}
 use Rattle.following.proofs.FollowLemmas.{EventsUnread, followed, leaves_events, event_fault, never_usage_of}
 use Rattle.gapping.proofs.GapLemmas as gapping
+use Rattle.gapping.proofs.ExplainedLemmas.{done_explained, refused_explained}
+use Rattle.judging.specs.Texts.{IsTextOf}
 use Rattle.demonstrating.specs.Steps.{HasDemonstrated}
 use Rattle.demonstrating.specs.Summary.{IsSummary}
 use Rattle.demonstrating.proofs.DemoLemmas.{demonstrated, demonstrated_fits}
@@ -30,7 +32,7 @@ use Rattle.rsml.specs.Commands.{Command, act, follow, demo, version, command_of,
 use Rattle.rsml.specs.Commands as commands
 use Rattle.rsml.specs.Output.{ActionOutput, Output}
 use Rattle.rsml.specs.Output as output
-use Rattle.rsml.specs.Promises.{Meeting, Runs, Tells, SomeReadRefused, ReadFaultOutput, Certifies, Refuses, TellsOnlyRun, Tabulates, Demonstrates, Checks, IsOfOnlyRun, CountsRise, answers_of}
+use Rattle.rsml.specs.Promises.{Meeting, Runs, Tells, SomeReadRefused, ReadFaultOutput, Certifies, Refuses, TellsOnlyRun, Tabulates, AsksGaps, ExplainsGaps, AsksExplainedGaps, Demonstrates, Checks, IsOfOnlyRun, CountsRise, answers_of}
 use Rattle.rsml.specs.Promises as promises
 use Rattle.rsml.specs.Steps.{HasObeyed}
 use Rattle.rsml.specs.Version.{version_text}
@@ -67,11 +69,11 @@ module _ (m : Meeting) (answer : Status) (c : Command) (is : command_of m.words 
 
   -- its promises, from what it answered, and what each of them is of its kind
   all_runs : AnswersOf m answer → LeftOver m (Names c) → Contains (answers_of c) answer → answer ≢ status.Usage
-      → Certifies m answer → Refuses m answer → ((does : EventAction) → TellsOnlyRun does m answer) → Tabulates m answer → Demonstrates m answer
+      → Certifies m answer → Refuses m answer → ((does : EventAction) → TellsOnlyRun does m answer) → Tabulates m answer → ExplainsGaps m answer → Demonstrates m answer
       → OfFollow (λ file events. file ≢ events → ((m.file events).reach_after ≡ (m.file events).reach) ⊎ IsFollowed (m.file file) (m.file events) answer) c
       → OfFollow (λ file events. answer ≡ status.EventFault → IsFollowed (m.file file) (m.file events) answer) c
       → Runs m answer
-  all_runs h left fits no_usage certifies refuses tells tabulates demonstrates unread fault = record {
+  all_runs h left fits no_usage certifies refuses tells tabulates explains demonstrates unread fault = record {
     answered = h.answered;
     usage = record { usage = λ none. absurd (cc (none, is)); only = λ e. absurd (no_usage e) };
     no_memory = h.no_memory;
@@ -85,6 +87,7 @@ module _ (m : Meeting) (answer : Status) (c : Command) (is : command_of m.words 
     covered = tells event_action.Cover;
     cover_explained = tells event_action.ExplainCover;
     gapped = tabulates;
+    gaps_explained = explains;
     demonstrated = demonstrates;
     others = λ file n. left.others file (λ names. n c is names);
     unread_events = λ does file events e.
@@ -173,10 +176,20 @@ module _ (m : Meeting) (answer : Status) (does : Action) (file : Bytes) (is : co
       let r = gapping.refused_output most text answer o.0 e o.1 in
       (r.0, o.0, r.1, r.2, o.2)
 
+  explains_gaps : ExplainsGaps m answer
+  explains_gaps (inl e) most text c =
+      let o = output_of_action (action.ExplainGaps most) c.file text c.command c.told (λ f. absurd (cc (e, f))) (λ f. absurd (cc (e, f))) (λ f. absurd (cc (e, f))) in
+      let r = done_explained most text answer o.0 e o.1 in
+      (r.0, o.0, r.1, r.2, o.2)
+  explains_gaps (inr e) most text c =
+      let o = output_of_action (action.ExplainGaps most) c.file text c.command c.told (λ f. absurd (cc (e, f))) (λ f. absurd (cc (e, f))) (λ f. absurd (cc (e, f))) in
+      let r = refused_explained most text answer o.0 e o.1 in
+      (r.0, o.0, r.1, r.2, o.2)
+
   runs_action : Runs m answer
   runs_action =
       all_runs m answer (act does file) is acted_answers left acted_fits acted_usage certifies refuses
-      (λ action e text content c. absurd (cc (is, c.command))) tabulates (λ e n c. absurd (cc (is, c))) tt tt
+      (λ action e text content c. absurd (cc (is, c.command))) tabulates explains_gaps (λ e n c. absurd (cc (is, c))) tt tt
 
 -- A command that follows an event file.
 
@@ -287,6 +300,7 @@ module _ (m : Meeting) (answer : Status) (does : EventAction) (file events : Byt
       let no_usage = never_usage_of does file events m.file m.sink answer h in
       all_runs m answer (follow does file events) is followed_answers left (all_but_usage answer refl no_usage) no_usage
       (λ e text c. absurd (cc (is, c.command))) (λ e text c. absurd (cc (is, c.command))) tells (λ e most text c. absurd (cc (is, c.command)))
+      (λ e most text c. absurd (cc (is, c.command)))
       (λ e n c. absurd (cc (is, c))) (leaves_events does file events m.file m.sink answer h) (event_fault does file events m.file m.sink answer h)
 
 -- `demo`.
@@ -321,7 +335,7 @@ module _ (m : Meeting) (answer : Status) (n : ℕ) (is : command_of m.words ≡ 
       (demonstrated_fits n m.sink answer (λ a. Contains (answers_of (demo n)) a) (0, lit< tt, refl) (2, lit< tt, refl) (1, lit< tt, refl) h)
       (demonstrated_fits n m.sink answer (λ a. a ≢ status.Usage) (λ f. cc f) (λ f. cc f) (λ f. cc f) h)
       (λ e text c. absurd (cc (is, c.command))) (λ e text c. absurd (cc (is, c.command))) (λ action e text content c. absurd (cc (is, c.command)))
-      (λ e most text c. absurd (cc (is, c.command))) demonstrates tt tt
+      (λ e most text c. absurd (cc (is, c.command))) (λ e most text c. absurd (cc (is, c.command))) demonstrates tt tt
 
 -- `version`.
 
@@ -335,7 +349,7 @@ module _ (m : Meeting) (answer : Status) (is : command_of m.words ≡ Some versi
       (written_fits (λ a. Contains (answers_of version) a) m.sink version_text status.Done answer w (0, lit< tt, refl) (1, lit< tt, refl))
       (written_fits (λ a. a ≢ status.Usage) m.sink version_text status.Done answer w (λ f. cc f) (λ f. cc f))
       (λ e text c. absurd (cc (is, c.command))) (λ e text c. absurd (cc (is, c.command))) (λ action e text content c. absurd (cc (is, c.command)))
-      (λ e most text c. absurd (cc (is, c.command))) (λ e n c. absurd (cc (is, c))) tt tt
+      (λ e most text c. absurd (cc (is, c.command))) (λ e most text c. absurd (cc (is, c.command))) (λ e n c. absurd (cc (is, c))) tt tt
 
 -- what `run` promises, from what the command that the words are leaves
 pub runs_command : (m : Meeting) (answer : Status) (c : Command) → command_of m.words ≡ Some c → HasObeyed c m.file m.sink answer
@@ -373,6 +387,7 @@ module _ (m : Meeting) (answer : Status) (none : command_of m.words ≡ None) (w
     covered = λ e text content c. absurd (cc (none, c.command));
     cover_explained = λ e text content c. absurd (cc (none, c.command));
     gapped = λ e most text c. absurd (cc (none, c.command));
+    gaps_explained = λ e most text c. absurd (cc (none, c.command));
     demonstrated = λ e n c. absurd (cc (none, c));
     others = λ file _. left.others file (λ f. f);
     unread_events = λ does file events c. absurd (cc (none, c));

@@ -1,5 +1,5 @@
 -- The commands: what the words after the program's name ask for.
-use Rattle.std.specs.Prelude.{ℕ, ◌≡◌, ◌≤◌, true, false, List, [], ◌∷◌, Option, Some, None, codes, option_map, if◌then◌else◌, ⊤}
+use Rattle.std.specs.Prelude.{ℕ, Bool, ◌≡◌, ◌≤◌, true, false, List, [], ◌∷◌, Option, Some, None, codes, option_map, if◌then◌else◌, ◌&&◌, ⊤}
 use Rattle.rsml_meaning.specs.EventLines.{Bytes}
 use Rattle.rsml_syntax.specs.text.Names.{same}
 use Rattle.following.specs.declared.event_action.EventAction.{EventAction}
@@ -36,6 +36,10 @@ explained_action_of first word =
       | false ↦ None
     ]
 
+-- whether these two words ask for columns with comment lines behind them
+abbrev pub explains_gaps : Bytes → Bytes → Bool
+explains_gaps first word = same first (codes "explain") && same word (codes "gaps")
+
 -- What is asked for, by the names of files or the number of units:
 pub data Command : Type 0 where
   -- an action on a specification
@@ -59,18 +63,25 @@ with_files file events action = follow action file events
 abbrev pub with_columns : Bytes → ℕ → Command
 with_columns file most = act (action.Gaps most) file
 
+-- the same, with comment lines behind it
+abbrev pub with_explained_columns : Bytes → ℕ → Command
+with_explained_columns file most = act (action.ExplainGaps most) file
+
 -- the command that the words are, if they are one
 abbrev pub command_of : List Bytes → Option Command
 command_of (word ∷ []) = if same word (codes "version") then Some version else None
 command_of (word ∷ file ∷ []) = if same word (codes "demo") then option_map demo (count_of 64 file) else option_map (with_file file) (action_of word)
 command_of (word ∷ file ∷ events ∷ []) =
     if same word (codes "gaps") then option_map (with_columns file) (count_of 99 events) else option_map (with_files file events) (event_action_of word)
-command_of (first ∷ word ∷ file ∷ events ∷ []) = option_map (with_files file events) (explained_action_of first word)
+command_of (first ∷ word ∷ file ∷ events ∷ []) =
+    if explains_gaps first word then option_map (with_explained_columns file) (count_of 99 events)
+    else option_map (with_files file events) (explained_action_of first word)
 command_of _ = None
 
 -- of each group some columns are asked for
 abbrev pub IsCounted : Action → Type 0
 IsCounted (action.Gaps most) = (1 ≤ most) × (most ≤ 99)
+IsCounted (action.ExplainGaps most) = (1 ≤ most) × (most ≤ 99)
 IsCounted _ = ⊤
 
 -- the units are from 1 to 64, and the columns from 1 to 99

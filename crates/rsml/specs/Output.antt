@@ -12,6 +12,7 @@ use Rattle.explaining.specs.Outputs.{ExplainOutput}
 use Rattle.following.specs.Outputs.{EventOutput, IsCertifiedText, texts_of}
 use Rattle.following.specs.declared.event_action.EventAction.{EventAction}
 use Rattle.gapping.specs.Outputs.{GapsOutput}
+use Rattle.gapping.specs.Explained.{ExplainGapsOutput}
 use Rattle.demonstrating.specs.Summary.{IsSummary}
 use Rattle.rsml.specs.Commands.{act, follow, demo, version, command_of}
 use Rattle.rsml.specs.Version.{version_text}
@@ -25,6 +26,7 @@ ActionOutput action.Explain = ExplainOutput
 ActionOutput action.Format = FormatOutput
 ActionOutput action.Migrate = MigrateOutput
 ActionOutput (action.Gaps most) = GapsOutput most
+ActionOutput (action.ExplainGaps most) = ExplainGapsOutput most
 
 -- What the words come to, where the files hold these contents.
 pub data Output (words : List Bytes) (contents : Bytes → Bytes) (answer : Status) (bytes : Bytes) : Type 0 where

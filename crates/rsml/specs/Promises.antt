@@ -10,6 +10,7 @@ use Rattle.answering.specs.Lines as lines
 use Rattle.answering.specs.Uses.{FileUse, SinkUse, ReadRefused, WriteRefused, Writes, WritesPrefix, WritesNothing}
 use Rattle.answering.specs.declared.status.Status.{Status}
 use Rattle.answering.specs.declared.status.Status.TheVariants as status
+use Rattle.explaining.specs.Outputs.{WithNotes}
 use Rattle.following.specs.Followed.{IsFollowed}
 use Rattle.following.specs.Outputs.{IsCertifiedText, Shows, texts_of}
 use Rattle.following.specs.declared.event_action.EventAction.{EventAction}
@@ -142,6 +143,17 @@ abbrev pub Tabulates : Meeting → Status → Type 0
 Tabulates m answer = ((answer ≡ status.Done) ⊎ (answer ≡ status.Refused)) → (most : ℕ) (text : Bytes) → AsksGaps m most text
     → (s : Spec) × (bytes : Bytes) × IsTextOf text s × TellsGaps s most answer bytes × Writes m.sink bytes
 
+-- The command is `explain gaps` with at most so many columns for each group, and its file told this text.
+pub record AsksExplainedGaps (m : Meeting) (most : ℕ) (text : Bytes) : Type 0 where
+  pub file : Bytes
+  pub command : command_of m.words ≡ Some (act (action.ExplainGaps most) file)
+  pub told : (m.file file).told ≡ Some text
+
+-- Where `explain gaps` ends with Done or with Refused, what `gaps` writes was written, and comment lines behind it.
+abbrev pub ExplainsGaps : Meeting → Status → Type 0
+ExplainsGaps m answer = ((answer ≡ status.Done) ⊎ (answer ≡ status.Refused)) → (most : ℕ) (text : Bytes) → AsksExplainedGaps m most text
+    → (s : Spec) × (bytes : Bytes) × IsTextOf text s × WithNotes (TellsGaps s most answer) bytes × Writes m.sink bytes
+
 -- Where `demo` ends with Done, the summary of its units was written.
 abbrev pub Demonstrates : Meeting → Status → Type 0
 Demonstrates m answer = answer ≡ status.Done → (n : ℕ) → command_of m.words ≡ Some (demo n) → (bytes : Bytes) × IsSummary n bytes × Writes m.sink bytes
@@ -155,7 +167,7 @@ abbrev pub LeavesEvents : Meeting → Status → Type 0
 LeavesEvents m answer = (does : EventAction) (file events : Bytes) → command_of m.words ≡ Some (follow does file events) → file ≢ events
     → ((m.file events).reach_after ≡ (m.file events).reach) ⊎ IsFollowed (m.file file) (m.file events) answer
 
--- the statuses with which `check`, `explain` and `gaps` can end
+-- the statuses with which `check`, `explain`, `gaps` and `explain gaps` can end
 abbrev pub judged_answers : List Status
 judged_answers = status.Done ∷ status.Refused ∷ status.SpecFault ∷ status.TooLong ∷ status.ReadFault ∷ status.WriteFault ∷ status.NoMemory ∷ []
 
@@ -170,6 +182,7 @@ answers_of (act action.Explain _) = judged_answers
 answers_of (act action.Format _) = layout_answers
 answers_of (act action.Migrate _) = layout_answers
 answers_of (act (action.Gaps _) _) = judged_answers
+answers_of (act (action.ExplainGaps _) _) = judged_answers
 answers_of (follow _ _ _) = status.EventFault ∷ judged_answers
 answers_of (demo _) = status.Done ∷ status.WriteFault ∷ status.NoMemory ∷ []
 answers_of version = status.Done ∷ status.WriteFault ∷ []
@@ -186,7 +199,8 @@ pub record CountsRise (m : Meeting) : Type 0 where
   pub reads : (file : Bytes) → (m.file file).refusals ≤ (m.file file).refusals_after
   pub writes : m.sink.refusals ≤ m.sink.refusals_after
 
--- All that `run` promises; the headline is in the fields `certified`, `refused`, `traced`, `covered`, `cover_explained`, `gapped` and `demonstrated`.
+-- All that `run` promises; the headline is in the fields `certified`, `refused`, `traced`, `covered`, `cover_explained`, `gapped`,
+-- `gaps_explained` and `demonstrated`.
 pub record Runs (m : Meeting) (answer : Status) : Type 0 where
   pub answered : IsAnswered m answer
   pub usage : IsUsage m answer
@@ -201,6 +215,7 @@ pub record Runs (m : Meeting) (answer : Status) : Type 0 where
   pub covered : Covers m answer
   pub cover_explained : ExplainsCover m answer
   pub gapped : Tabulates m answer
+  pub gaps_explained : ExplainsGaps m answer
   pub demonstrated : Demonstrates m answer
   pub others : LeavesOthers m
   pub unread_events : LeavesEvents m answer

@@ -7,7 +7,7 @@ use crate::command::Action;
 use answering::{GREATEST_FILE, Outcome, unread};
 use checking::{check, format, migrate};
 use explaining::explain;
-use gapping::gaps;
+use gapping::{explain_gaps, gaps};
 use rsml_io::{Files, read_all};
 use rsml_syntax::NoMemory;
 use std::alloc::Global;
@@ -23,6 +23,7 @@ fn outcome_of(alloc: Global, action: Action, file: &[u8], text: &[u8]) -> Result
         Action::Format => format(alloc, text),
         Action::Migrate => migrate(alloc, text),
         Action::Gaps(most) => gaps(alloc, text, most),
+        Action::ExplainGaps(most) => explain_gaps(alloc, file, text, most),
     }
 }
 

@@ -1,5 +1,6 @@
 ghost use Rattle.std.specs.Prelude.{◌≡◌, map, option_map, string_bytes};
 ghost use Rattle.rsml.specs.Asked.{asked};
+ghost use Rattle.rsml.specs.Commands as spec;
 ghost use Rattle.rsml.specs.Commands.{action_of, command_of, event_action_of, explained_action_of};
 
 use crate::counts::count_in;
@@ -18,6 +19,8 @@ pub enum Action {
     Migrate,
     /// Writes for each group that is not sound at most so many columns, from 1 to 99, of the worlds in which it fails.
     Gaps(u32),
+    /// Does the same, and writes comment lines behind it.
+    ExplainGaps(u32),
 }
 
 /// A command, with the names of its files, or the number of units.
@@ -86,6 +89,13 @@ fn explained_action_called(first: &str, word: &str) -> Option<EventAction>
     None
 }
 
+/// Whether two words ask for columns with comment lines behind them.
+fn explains_gaps(first: &str, word: &str) -> bool
+    ensures { result ≡ spec.explains_gaps first.now word.now }
+{
+    first == "explain" && word == "gaps"
+}
+
 /// The command that the words are, if they are one.
 pub fn command_in(words: &[String]) -> Option<Command<'_>>
     ensures { option_map asked result ≡ command_of (map (λ word. string_bytes word) words.now) }
@@ -123,6 +133,12 @@ pub fn command_in(words: &[String]) -> Option<Command<'_>>
             })
         }
         [first, word, file, events] => {
+            if explains_gaps(first.as_str(), word.as_str()) {
+                let columns = count_in(events.as_str().as_bytes(), 99)?;
+                let action = Action::ExplainGaps(columns);
+                let file = file.as_str();
+                return Some(Command::Act { action, file });
+            }
             let action = explained_action_called(first.as_str(), word.as_str())?;
             let file = file.as_str();
             let events = events.as_str();

@@ -17,6 +17,10 @@ fn explained_file(command: Command<'_>) -> Option<&str> {
             action: Action::Explain,
             file,
         } => Some(file),
+        Command::Act {
+            action: Action::ExplainGaps(_),
+            file,
+        } => Some(file),
         Command::Follow {
             action: EventAction::ExplainCover,
             file,
@@ -26,8 +30,8 @@ fn explained_file(command: Command<'_>) -> Option<&str> {
     }
 }
 
-/// What a person is told where a command ended with out of memory: of `explain` and `explain cover`, comment lines on the first group for
-/// which memory is refused; of another command, or where that is not known, nothing. It takes the time of `check` once more.
+/// What a person is told where a command ended with out of memory: of `explain`, `explain cover` and `explain gaps`, comment lines on the
+/// first group for which memory is refused; of another command, or where that is not known, nothing. It takes the time of `check` once more.
 pub fn memory_lines<F: Files>(
     alloc: Global,
     words: &[String],

@@ -19,3 +19,9 @@ gaps-requires c = (subst IsCounted c.in-Gaps.is c.requires).0
 
 pub returns-in-Gaps : goal.returns-in-Gaps
 returns-in-Gaps c = rw c.in-Gaps.is c.gaps.ensures
+
+pub explain_gaps-requires : goal.explain_gaps-requires
+explain_gaps-requires c = (subst IsCounted c.in-ExplainGaps.is c.requires).0
+
+pub returns-in-ExplainGaps : goal.returns-in-ExplainGaps
+returns-in-ExplainGaps c = rw c.in-ExplainGaps.is c.explain_gaps.ensures
