@@ -113,14 +113,16 @@ def gaps(text, most):
 
 
 def stored():
-    """Each answer of the case files, with its place and what is worked out."""
+    """Each answer of the case files, without comment lines, with its place and what is worked out."""
     for file in sorted((TESTS / "gaps").glob("*.cases")):
         if f"gaps/{file.stem}" in TOO_MANY_WORLDS:
             continue
         for case in cases_of(str(file))[1]:
-            if case.words[0] == "gaps" and case.status < 2:
-                text = text_of(case.files[case.words[1]], str(file.parent)).decode()
-                yield case.place, gaps(text, int(case.words[2])), (case.answer.decode(), case.status)
+            words = case.words[1:] if case.words[0] == "explain" else case.words
+            if words[0] == "gaps" and len(words) == 3 and case.status < 2:
+                text = text_of(case.files[words[1]], str(file.parent)).decode()
+                told = "".join(line for line in case.answer.decode().splitlines(True) if not line.startswith("# "))
+                yield case.place, gaps(text, int(words[2])), (told, case.status)
 
 
 def at_random(count, program):
