@@ -1,0 +1,4 @@
+pub mod Checked
+pub mod Scoped
+pub mod StandsFor
+pub mod Truths
