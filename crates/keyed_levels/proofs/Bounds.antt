@@ -293,6 +293,19 @@ bound_stands base beside levels keyed x p next = record {
       ∙ phrase_last base beside p;
 }
 
+-- the key of a phrase stands for it
+pub key_stands : (k : KeyedWorlds) (keys : List Keyed) (i : ℕ) (x : Keyed) (p q : GroundPhrase) → keys ≡ k.keyed → i < length keys → x ≡ key_at keys i → slice_get (phrases_of k) x.phrase ≡ Some p → p ≡ q
+    → StandsFor k q x.level
+key_stands k keys i x p q same less at phrase equal = record {
+  place = i;
+  there = subst (λ (xs : List Keyed). i < length xs) same less;
+  own = ap (λ (y : Keyed). y.level) (sym is);
+  is = ap (λ (y : Keyed). slice_get (phrases_of k) y.phrase) (sym is) ∙ phrase ∙ ap (λ (r : GroundPhrase). Some r) equal;
+}
+  where
+    is : x ≡ key_at k.keyed i
+    is = at ∙ ap (λ (xs : List Keyed). key_at xs i) same
+
 -- Bounds taken back.
 
 abbrev pub fewer : Beside → Beside

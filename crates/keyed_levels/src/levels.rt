@@ -174,8 +174,35 @@ impl<'m, 'a> KeyedLevels<'m, 'a> {
         }
     }
 
-    /// A spare level that stands for a comparison from now on. None where none is left.
+    /// A level that stands for a comparison from now on: one that does already, or else a spare one. None where none is left.
+    #[tactic(auto, using(crate::proofs::Bounds::extends_itself))]
     pub fn stand_for(&mut self, bound: GroundPhrase) -> Result<Option<u32>, NoMemory>
+        requires { PhraseFits (length (cells self.old.base.spec)) bound }
+        ensures extends { Extends self.old self.new }
+        ensures first { unbounded self.new ≡ unbounded self.old }
+        ensures few { length self.new.keyed ≤ length self.old.keyed + 1 }
+        ensures level { IfOk result (λ found. IfSome found (StandsFor self.new bound)) }
+    {
+        match self.level_for(&bound) {
+            Some(level) => Ok(Some(level)),
+            None => self.take_spare(bound),
+        }
+    }
+
+    /// The level of a key that stands for a comparison.
+    fn level_for(&self, bound: &GroundPhrase) -> Option<u32>
+        ensures { IfSome result (StandsFor self.now bound.now) }
+    {
+        for key in self.keys() {
+            if self.phrase(key.phrase) == bound {
+                return Some(key.level);
+            }
+        }
+        None
+    }
+
+    /// A spare level that stands for a comparison from now on. None where none is left.
+    fn take_spare(&mut self, bound: GroundPhrase) -> Result<Option<u32>, NoMemory>
         requires { PhraseFits (length (cells self.old.base.spec)) bound }
         ensures extends { Extends self.old self.new }
         ensures first { unbounded self.new ≡ unbounded self.old }

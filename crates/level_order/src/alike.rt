@@ -16,7 +16,7 @@ enum Question {
 
 /// Two sums, and what is asked of them.
 #[derive(Clone, Copy, PartialEq, Eq, Hash)]
-struct Compared<'p> {
+pub struct Compared<'p> {
     left: &'p GroundSum,
     question: Question,
     right: &'p GroundSum,
@@ -34,15 +34,24 @@ fn question_of(relation: Relation) -> Question {
 /// stands for itself.
 pub fn first_alike(alloc: Global, macros: &Macros<'_>) -> Result<Vec<u32>, NoMemory> {
     let mut known = IndexMap::new(alloc);
+    firsts(alloc, &mut known, macros)
+}
+
+/// The same, where these comparisons are known.
+pub fn firsts<'p>(
+    alloc: Global,
+    known: &mut IndexMap<Compared<'p>, u32>,
+    macros: &'p Macros<'_>,
+) -> Result<Vec<u32>, NoMemory> {
     let mut first = Vec::new(alloc);
     for number in 0..macros.phrases() {
-        first.push(first_of(&mut known, macros.phrase(number), number)?)?;
+        first.push(first_of(known, macros.phrase(number), number)?)?;
     }
     Ok(first)
 }
 
 /// The first phrase that is alike: the one of this number, where none is known.
-fn first_of<'p>(
+pub fn first_of<'p>(
     known: &mut IndexMap<Compared<'p>, u32>,
     phrase: &'p GroundPhrase,
     number: u32,

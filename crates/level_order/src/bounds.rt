@@ -24,6 +24,16 @@ impl Bounds {
         Ok(bounds)
     }
 
+    /// Adds comparisons, of which the first has this number.
+    pub fn add_beside(&mut self, beside: &[GroundPhrase], first: u32) -> Result<(), NoMemory> {
+        let mut number = first;
+        for phrase in beside {
+            self.add(phrase, number)?;
+            number = number.saturating_add(1);
+        }
+        Ok(())
+    }
+
     /// The phrases that compare a cell alone. None where there is no such cell.
     pub fn of(&self, cell: u32) -> &[u32] {
         match self.of.get(cell as usize) {

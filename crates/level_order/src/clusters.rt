@@ -26,13 +26,32 @@ impl Drop for Clusters {
 impl Clusters {
     /// So many cells, as they meet in the phrases and definitions of a machine.
     pub fn new(alloc: Global, macros: &Macros<'_>, cells: u32) -> Result<Clusters, NoMemory> {
-        let mut clusters = Clusters {
-            cells: UnionFind::new(alloc, cells)?,
-            valued: Marks::new(alloc, cells as usize)?,
-        };
+        let mut clusters = Clusters::apart(alloc, cells)?;
         clusters.join(alloc, macros)?;
         clusters.mark_roots(cells);
         Ok(clusters)
+    }
+
+    /// The same of two machines with the same cells.
+    pub fn of_two(
+        alloc: Global,
+        one: &Macros<'_>,
+        two: &Macros<'_>,
+        cells: u32,
+    ) -> Result<Clusters, NoMemory> {
+        let mut clusters = Clusters::apart(alloc, cells)?;
+        clusters.join(alloc, one)?;
+        clusters.join(alloc, two)?;
+        clusters.mark_roots(cells);
+        Ok(clusters)
+    }
+
+    /// So many cells, each by itself.
+    fn apart(alloc: Global, cells: u32) -> Result<Clusters, NoMemory> {
+        Ok(Clusters {
+            cells: UnionFind::new(alloc, cells)?,
+            valued: Marks::new(alloc, cells as usize)?,
+        })
     }
 
     /// The root of the cells that hang together with this one.

@@ -5,12 +5,14 @@
 mod alike;
 mod bounds;
 mod clusters;
+mod joint;
 mod lines;
 mod lists;
 mod marks;
 mod neighbours;
 mod ordering;
 mod parts;
+mod plans;
 mod reading;
 mod reads;
 mod sequences;
@@ -19,5 +21,4 @@ mod sums;
 mod supports;
 mod union_find;
 
-pub use alike::first_alike;
-pub use ordering::order;
+pub use plans::{PlanOfTwo, plan_of, plan_of_two};

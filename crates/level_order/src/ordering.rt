@@ -1,11 +1,13 @@
 //! The order of the levels.
 use crate::bounds::Bounds;
 use crate::clusters::Clusters;
+use crate::joint::AlikeInTwo;
 use crate::parts::{PartKind, Parts};
 use crate::sequences::Sequences;
 use crate::supports::Supports;
 use elaborate::Machine;
 use keyed_levels::KeyPlace;
+use macros::Macros;
 use rsml_base::{List, NoMemory};
 use std::alloc::Global;
 use std::mem;
@@ -24,38 +26,65 @@ pub fn order(
     alike: &[u32],
 ) -> Result<Vec<KeyPlace>, NoMemory> {
     let parts = Parts::new(machine, alike)?;
-    let order = parts_in_order(alloc, machine, &parts)?;
+    let supports = Supports::new(alloc, machine, &parts)?;
+    let order = parts_in_order(alloc, supports, &parts)?;
     let bounds = Bounds::new(alloc, machine.macros(), &parts)?;
-    let mut clusters = Clusters::new(alloc, machine.macros(), parts.cells())?;
-    let cells = gathered(alloc, &parts, &mut clusters, order.as_slice())?;
-    places(
-        alloc,
-        &parts,
-        &bounds,
-        &mut clusters,
-        cells,
-        order.as_slice(),
-    )
+    let clusters = Clusters::new(alloc, machine.macros(), parts.cells())?;
+    in_places(alloc, &parts, &bounds, clusters, order.as_slice())
+}
+
+/// An order for the levels of two machines with the same worlds, by which comparisons of theirs are alike.
+pub fn order_of_two(
+    alloc: Global,
+    one: &Machine<'_>,
+    two: &Machine<'_>,
+    alike: &AlikeInTwo,
+) -> Result<Vec<KeyPlace>, NoMemory> {
+    let count = alike.count(one.macros())?;
+    let parts = Parts::with(one, count, alike.one.as_slice())?;
+    let others = Parts::with(two, count, alike.two.as_slice())?;
+    let supports = Supports::of_two(alloc, one, &parts, two, &others)?;
+    let order = parts_in_order(alloc, supports, &parts)?;
+    let bounds = bounds_of_two(alloc, one.macros(), &parts, alike)?;
+    let clusters = Clusters::of_two(alloc, one.macros(), two.macros(), parts.cells())?;
+    in_places(alloc, &parts, &bounds, clusters, order.as_slice())
+}
+
+/// For each cell the comparisons of two machines that compare it alone: the first of those that are alike.
+fn bounds_of_two(
+    alloc: Global,
+    one: &Macros<'_>,
+    parts: &Parts<'_>,
+    alike: &AlikeInTwo,
+) -> Result<Bounds, NoMemory> {
+    let mut bounds = Bounds::new(alloc, one, parts)?;
+    bounds.add_beside(alike.beside.as_slice(), one.phrases())?;
+    Ok(bounds)
 }
 
 /// The parts in order: what supports have, sequence by sequence, and then the other components and cells.
 fn parts_in_order(
     alloc: Global,
-    machine: &Machine<'_>,
+    supports: Supports,
     parts: &Parts<'_>,
 ) -> Result<Vec<u32>, NoMemory> {
-    let mut sequences = joined(alloc, machine, parts)?;
+    let mut sequences = Sequences::new(alloc, parts.count())?;
+    supports.join(&mut sequences);
     let mut order = sequences.in_order(alloc)?;
     add_others(&mut order, &sequences, parts)?;
     Ok(order)
 }
 
-/// The sequences that the supports of a machine make.
-fn joined(alloc: Global, machine: &Machine<'_>, parts: &Parts<'_>) -> Result<Sequences, NoMemory> {
-    let supports = Supports::new(alloc, machine, parts)?;
-    let mut sequences = Sequences::new(alloc, parts.count())?;
-    supports.join(&mut sequences);
-    Ok(sequences)
+/// The places of parts in this order, as cells hang together and are bounded.
+fn in_places(
+    alloc: Global,
+    parts: &Parts<'_>,
+    bounds: &Bounds,
+    mut clusters: Clusters,
+    order: &[u32],
+) -> Result<Vec<KeyPlace>, NoMemory> {
+    let cells = gathered(alloc, parts, &mut clusters, order)?;
+    places(alloc, parts, bounds, &mut clusters, cells, order)
 }
 
 /// Adds the components and cells that no sequence has.

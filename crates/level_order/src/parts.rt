@@ -25,13 +25,21 @@ impl<'p> Parts<'p> {
     /// The parts of a machine, with the first comparison that is like each phrase. NoMemory where a `u32` does not count them: memory
     /// would not hold so many.
     pub fn new(machine: &Machine<'_>, alike: &'p [u32]) -> Result<Parts<'p>, NoMemory> {
+        Parts::with(machine, machine.macros().phrases(), alike)
+    }
+
+    /// The same, with so many numbers for comparisons.
+    pub fn with(
+        machine: &Machine<'_>,
+        comparisons: u32,
+        alike: &'p [u32],
+    ) -> Result<Parts<'p>, NoMemory> {
         let components = machine.tree().components();
         let Ok(cells) = u32::try_from(machine.cells()) else {
             return Err(NoMemory);
         };
         let first_comparison = components.checked_add(cells).ok_or(NoMemory)?;
-        let phrases = machine.macros().phrases();
-        let count = first_comparison.checked_add(phrases).ok_or(NoMemory)?;
+        let count = first_comparison.checked_add(comparisons).ok_or(NoMemory)?;
         Ok(Parts {
             components,
             cells,

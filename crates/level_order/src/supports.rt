@@ -27,22 +27,35 @@ impl Supports {
         machine: &Machine<'_>,
         parts: &Parts<'_>,
     ) -> Result<Supports, NoMemory> {
-        let mut set = PartSet::new(alloc, parts.count())?;
-        let reads = reads(alloc, machine, parts, &mut set)?;
-        let supports = Supports::of_reads(alloc, machine, &reads, &mut set)?;
+        let mut supports = Supports::empty(alloc)?;
+        supports.add_machine(alloc, machine, parts)?;
         supports.without_shared(alloc, parts.count())
     }
 
-    /// The same, where this is what states, phrases and definitions read.
-    fn of_reads(
+    /// The supports of two machines with the same parts: those of the first before those of the second.
+    pub fn of_two(
         alloc: Global,
-        machine: &Machine<'_>,
-        reads: &Reads,
-        set: &mut PartSet,
+        one: &Machine<'_>,
+        parts: &Parts<'_>,
+        two: &Machine<'_>,
+        others: &Parts<'_>,
     ) -> Result<Supports, NoMemory> {
         let mut supports = Supports::empty(alloc)?;
-        supports.add_all(machine, reads, set)?;
-        Ok(supports)
+        supports.add_machine(alloc, one, parts)?;
+        supports.add_machine(alloc, two, others)?;
+        supports.without_shared(alloc, parts.count())
+    }
+
+    /// Adds the supports of a machine.
+    fn add_machine(
+        &mut self,
+        alloc: Global,
+        machine: &Machine<'_>,
+        parts: &Parts<'_>,
+    ) -> Result<(), NoMemory> {
+        let mut set = PartSet::new(alloc, parts.count())?;
+        let reads = reads(alloc, machine, parts, &mut set)?;
+        self.add_all(machine, &reads, &mut set)
     }
 
     /// Adds the supports of transitions, cases of sends, phrases and definitions, and groups of states.

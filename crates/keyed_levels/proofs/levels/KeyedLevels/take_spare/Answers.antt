@@ -5,7 +5,7 @@ use Rattle.keyed_levels.specs.declared.keyed.Keyed.{Keyed}
 use Rattle.keyed_levels.specs.Keyed.{Beside, Extends, KeyedWorlds, PhraseFits, StandsFor}
 use Rattle.keyed_levels.specs.Stored.{AreStored, IsNextKey, with_parts}
 use Rattle.keyed_levels.proofs.Bounds.{bound_extends, bound_stands, bound_stored, phrase_extends, phrase_stored, with_phrase}
-use Rattle.keyed_levels.proofs.levels.KeyedLevels.stand_for.Goals as goal
+use Rattle.keyed_levels.proofs.levels.KeyedLevels.take_spare.Goals as goal
 
 pub invariant_of-self-in_err-push-in-Some-2 : goal.invariant_of-self-in_err-push-in-Some-2
 invariant_of-self-in_err-push-in-Some-2 c =
