@@ -1,5 +1,5 @@
 -- Levels that stand for bounds, and encoders that have more of them or none.
-use Rattle.std.proofs.Common.{◌≡◌, ℕ, zero, suc, ◌+◌, ◌<◌, ◌≤◌, Bool, List, All, [], ◌∷◌, ◌++◌, length, take, Option, None, Some, refl, sym, ap, ◌∙◌, subst, slice_get, slice_index_or, ℤ, pos, int_le, arith}
+use Rattle.std.proofs.Common.{◌≡◌, ℕ, zero, suc, ◌+◌, ◌<◌, ◌≤◌, Bool, List, [], ◌∷◌, ◌++◌, length, take, Option, None, Some, refl, sym, ap, ◌∙◌, subst, slice_get, slice_index_or, ℤ, pos, int_le, arith}
 use Rattle.std.proofs.Math.IntN.{+ℤ_idl}
 use Rattle.std.proofs.lemmas.List.{length-take-le}
 use Rattle.std.proofs.lemmas.Option.{slice_get_within}
@@ -45,10 +45,6 @@ bound_tells m k old new cell level r n stands h = record {
       ∙ ap (comparison w) stands.is
       ∙ (λ i. int_le (+ℤ_idl (slice_index_or w.cells cell (pos 0)) i) (+ℤ_idl n i));
 }
-
--- with no comparison beside the phrases of a machine all of them are
-pub none_beside : (many : ℕ) (ps : List GroundPhrase) → ps ≡ [] → All (PhraseFits many) ps
-none_beside many ps none = subst (λ (qs : List GroundPhrase). All (PhraseFits many) qs) (sym none) (λ k p less. absurd (omega (arith, less)))
 
 -- the comparison is one of sums of these cells
 pub bound_fits : (many cell : ℕ) (n : ℤ) → cell < many → IsSmall n → PhraseFits many (at_most cell n)
@@ -155,7 +151,7 @@ bound_encoded m k more d made exact are keyed_are extends unbound are_exact = re
     first = subst (λ (j : KeyedWorlds). Extends j (record more { base = m.base })) (sym own)
         (extends_on (unbounded_of (encoding_of m k d)) (record k { base = m.base }) (record more { base = m.base }) are.stored.first (own_extends m k more are.same extends));
     active_are = subst (λ (j : KeyedWorlds). AreActive d j made.active) (sym own) are.stored.active_are;
-    phrases_are = subst (λ (j : KeyedWorlds). ArePhrases d j (length m.base.phrases) made.phrases) (sym own) are.stored.phrases_are;
+    phrases_are = subst (λ (j : KeyedWorlds). ArePhrases d j m.base (length m.base.phrases) made.phrases) (sym own) are.stored.phrases_are;
     exact_are = subst (λ (g : Grounded). AreExact d (record more { base = g }) exact) same are_exact;
   };
 }
@@ -212,7 +208,7 @@ without_encoded m k d made kept are keyed_are is = record {
     same_levels = are.stored.same_levels;
     first = subst (λ (j : KeyedWorlds). Extends j own) (sym again) (extends_itself own);
     active_are = subst (λ (j : KeyedWorlds). AreActive d j made.active) (sym again) are.stored.active_are;
-    phrases_are = subst (λ (j : KeyedWorlds). ArePhrases d j (length m.base.phrases) made.phrases) (sym again) are.stored.phrases_are;
+    phrases_are = subst (λ (j : KeyedWorlds). ArePhrases d j m.base (length m.base.phrases) made.phrases) (sym again) are.stored.phrases_are;
     exact_are = first_exact d own (worlds_of (encoding_of m k d)) made.exact kept are.stored.exact_are are.stored.first is;
   };
 }

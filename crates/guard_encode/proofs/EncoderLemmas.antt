@@ -1,8 +1,9 @@
 -- The parts of an encoder.
-use Rattle.std.proofs.Common.{◌≡◌, ℕ, zero, suc, ◌<◌, ◌∷◌, get_or, Bool, List, [], fold, length, replicate, Option, None, Some, sym, ap, ◌∙◌, subst, slice_get, arith}
+use Rattle.std.proofs.Common.{◌≡◌, ℕ, zero, suc, ◌<◌, ◌∷◌, get_or, Bool, List, [], fold, length, replicate, Option, None, Some, refl, sym, ap, ◌∙◌, subst, slice_get, arith}
 use Rattle.std.proofs.lemmas.List.{length-replicate, take_all}
 use Rattle.rsml_syntax.specs.declared.syntax.Spec.{Spec}
 use Rattle.rsml_meaning.specs.Instances.{states}
+use Rattle.equal_frames.specs.Alike.{HaveSameWorlds}
 use Rattle.rsml_ground.specs.Truths.{Grounded, is_active, truths_in, with_next}
 use Rattle.bdd_core.specs.Diagram.{Diagram}
 use Rattle.bdd_core.specs.Calls as arena
@@ -20,6 +21,10 @@ use Rattle.guard_encode.specs.Encoding.{Tells as EncodingTells}
 use Rattle.std.proofs.lemmas.Option.{same_Some}
 use Rattle.state_tree.proofs.Lists.{within_get}
 use Rattle.guard_encode.proofs.Telling.{exact_tells}
+
+-- a specification has the same worlds as itself
+pub own_worlds : (s : Spec) → HaveSameWorlds s s
+own_worlds s = record { worlds = λ w. refl; paths = refl; active = λ w path. refl; cells = refl }
 
 -- exact diagrams of the states of the specification
 pub are_active : (d : Diagram) (k : KeyedWorlds) (levels : WorldLevels) (s : Spec) (active : List ℕ) → s ≡ levels.spec → levels.spec ≡ k.base.spec → levels.slots ≡ k.slots → length active ≡ length (states s)
@@ -54,7 +59,7 @@ own_unbounded m k d none = ap (λ (j : KeyedWorlds). record j { base = m.base })
 
 -- the parts of an encoder, over levels of its machine's phrases
 pub are_encoded : (m : GroundMachine) (k : KeyedWorlds) (d : Diagram) (made : Made) → k.base ≡ m.base → HasNoBounds k → AreKeyed k → d.levels ≡ length k.slots
-    → AreActive d k made.active → ArePhrases d k (length k.base.phrases) made.phrases → AreExact d k made.exact → AreEncoded m k d made
+    → AreActive d k made.active → ArePhrases d k k.base (length k.base.phrases) made.phrases → AreExact d k made.exact → AreEncoded m k d made
 are_encoded m k d made same none keyed room are_active are_phrases are_exact = record {
   same = same;
   stored = record {
@@ -62,8 +67,8 @@ are_encoded m k d made same none keyed room are_active are_phrases are_exact = r
     same_levels = room;
     first = subst (λ (j : KeyedWorlds). Extends j own) (sym unbound) (extends_itself own);
     active_are = subst (λ (j : KeyedWorlds). AreActive d j made.active) (sym unbound) (subst (λ (g : Grounded). AreActive d (record k { base = g }) made.active) same are_active);
-    phrases_are = subst (λ (j : KeyedWorlds). ArePhrases d j (length m.base.phrases) made.phrases) (sym unbound)
-        (subst (λ (g : Grounded). ArePhrases d (record k { base = g }) (length g.phrases) made.phrases) same are_phrases);
+    phrases_are = subst (λ (j : KeyedWorlds). ArePhrases d j m.base (length m.base.phrases) made.phrases) (sym unbound)
+        (subst (λ (g : Grounded). ArePhrases d (record k { base = g }) g (length g.phrases) made.phrases) same are_phrases);
     exact_are = subst (λ (g : Grounded). AreExact d (record k { base = g }) made.exact) same are_exact;
   };
 }
@@ -75,9 +80,9 @@ are_encoded m k d made same none keyed room are_active are_phrases are_exact = r
     unbound = own_unbounded m k d none
 
 -- the diagrams of all phrases have their truths
-pub all_truths : (d : Diagram) (k : KeyedWorlds) (phrases : List ℕ) → ArePhrases d k (length k.base.phrases) phrases → (v : ℕ → Bool) → Lawful k v → truths_at d phrases v ≡ truths_in k.base (world_at k v)
-all_truths d k phrases are v lawful =
-    are.truths v lawful ∙ ap (λ ps. fold (with_next k.base (world_at k v)) [] ps) (take_all (length k.base.phrases) k.base.phrases (omega arith))
+pub all_truths : (d : Diagram) (k : KeyedWorlds) (g : Grounded) (phrases : List ℕ) → ArePhrases d k g (length g.phrases) phrases → (v : ℕ → Bool) → Lawful k v → truths_at d phrases v ≡ truths_in g (world_at k v)
+all_truths d k g phrases are v lawful =
+    are.truths v lawful ∙ ap (λ ps. fold (with_next g (world_at k v)) [] ps) (take_all (length g.phrases) g.phrases (omega arith))
 
 get_at : (xs : List ℕ) (i x d : ℕ) → slice_get xs i ≡ Some x → get_or xs i d ≡ x
 get_at [] i x d h = absurd (let empty : ⊥ = cc in empty)

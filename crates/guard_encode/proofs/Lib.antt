@@ -14,3 +14,4 @@ pub mod MarkLemmas
 pub mod SpellingLemmas
 pub mod FindLemmas
 pub mod HoldingLemmas
+pub mod OtherLemmas

@@ -5,7 +5,7 @@ use Rattle.std.proofs.lemmas.List.{map_push}
 use Rattle.std.proofs.lemmas.List.Elements.{All-append}
 use Rattle.std.proofs.lemmas.Option.{same_Some}
 use Rattle.rsml_ground.specs.declared.phrases.GroundPhrase.{GroundPhrase}
-use Rattle.rsml_ground.specs.Truths.{with_next}
+use Rattle.rsml_ground.specs.Truths.{Grounded, with_next}
 use Rattle.state_tree.proofs.Lists.{within_get}
 use Rattle.bdd_core.specs.Diagram.{Diagram, IsRef, meaning}
 use Rattle.bdd_core.specs.Calls.{Keeps}
@@ -29,27 +29,24 @@ more_refs d diagrams r refs is = All-append (IsRef d) diagrams (r ∷ []) refs o
     one (suc j) e less = absurd (omega (arith, less))
 
 -- one more diagram, in an arena that has grown
-pub phrases_more : (old new : Diagram) (k : KeyedWorlds) (n : ℕ) (diagrams more : List ℕ) (r : ℕ) → n < length k.base.phrases → Keeps old new → ArePhrases old k n diagrams
-    → ((p : GroundPhrase) → slice_get k.base.phrases n ≡ Some p → TellsNext old new k diagrams p r) → more ≡ diagrams ++ (r ∷ []) → ArePhrases new k (n + 1) more
-phrases_more old new k n diagrams more r less keeps are next push = subst (ArePhrases new k (n + 1)) (sym push) (record {
+pub phrases_more : (old new : Diagram) (k : KeyedWorlds) (g : Grounded) (n : ℕ) (diagrams more : List ℕ) (r : ℕ) → n < length g.phrases → Keeps old new → ArePhrases old k g n diagrams
+    → ((p : GroundPhrase) → slice_get g.phrases n ≡ Some p → TellsNext old new k g diagrams p r) → more ≡ diagrams ++ (r ∷ []) → ArePhrases new k g (n + 1) more
+phrases_more old new k g n diagrams more r less keeps are next push = subst (ArePhrases new k g (n + 1)) (sym push) (record {
   many = length-append diagrams (r ∷ []) ∙ ap (λ m. m + 1) are.many;
   refs = more_refs new diagrams r (refs_stay old new diagrams keeps are.refs) told.is_ref;
   truths = truths;
 })
   where
-    here : (p : GroundPhrase) × (slice_get k.base.phrases n ≡ Some p)
-    here = within_get k.base.phrases n less
+    told : TellsNext old new k g diagrams (within_get g.phrases n less).0 r
+    told = next (within_get g.phrases n less).0 (within_get g.phrases n less).1
 
-    told : TellsNext old new k diagrams (within_get k.base.phrases n less).0 r
-    told = next (within_get k.base.phrases n less).0 (within_get k.base.phrases n less).1
-
-    truths : (v : ℕ → Bool) → Lawful k v → truths_at new (diagrams ++ (r ∷ [])) v ≡ fold (with_next k.base (world_at k v)) [] (take (n + 1) k.base.phrases)
+    truths : (v : ℕ → Bool) → Lawful k v → truths_at new (diagrams ++ (r ∷ [])) v ≡ fold (with_next g (world_at k v)) [] (take (n + 1) g.phrases)
     truths v lawful =
-        let p = (within_get k.base.phrases n less).0 in
+        let p = (within_get g.phrases n less).0 in
         let w = world_at k v in
         map_push (λ f. meaning new f v) diagrams r
         ∙ ap (λ ts. ts ++ (meaning new r v ∷ [])) (truths_stay old new diagrams v keeps are.refs)
         ∙ ap (λ t. truths_at old diagrams v ++ (t ∷ [])) (told.means v lawful)
-        ∙ ap (λ ts. with_next k.base w ts p) (are.truths v lawful)
-        ∙ sym (fold_more (with_next k.base w) k.base.phrases [] n p (within_get k.base.phrases n less).1)
-        ∙ ap (λ m. fold (with_next k.base w) [] (take m k.base.phrases)) (sym (add-one n))
+        ∙ ap (λ ts. with_next g w ts p) (are.truths v lawful)
+        ∙ sym (fold_more (with_next g w) g.phrases [] n p (within_get g.phrases n less).1)
+        ∙ ap (λ m. fold (with_next g w) [] (take m g.phrases)) (sym (add-one n))

@@ -24,8 +24,8 @@ use Rattle.guard_encode.specs.Encoding.{AreEncoded, Encoding, Keeps, Made, Tells
 use Rattle.guard_encode.proofs.Telling.{exact_tells, truths_stay, refs_stay}
 use Rattle.guard_encode.proofs.EncoderLemmas.{active_stay, all_truths}
 
-phrases_stay : (old new : Diagram) (k : KeyedWorlds) (n : ℕ) (diagrams : List ℕ) → arena.Keeps old new → ArePhrases old k n diagrams → ArePhrases new k n diagrams
-phrases_stay old new k n diagrams keeps are = record {
+pub phrases_stay : (old new : Diagram) (k : KeyedWorlds) (g : Grounded) (n : ℕ) (diagrams : List ℕ) → arena.Keeps old new → ArePhrases old k g n diagrams → ArePhrases new k g n diagrams
+phrases_stay old new k g n diagrams keeps are = record {
   many = are.many;
   refs = refs_stay old new diagrams keeps are.refs;
   truths = λ v lawful. truths_stay old new diagrams v keeps are.refs ∙ are.truths v lawful;
@@ -41,7 +41,7 @@ settled_stay m k old new made exact keeps are_exact are = record {
     same_levels = keeps.same_levels ∙ are.stored.same_levels;
     first = are.stored.first;
     active_are = active_stay old new (unbounded_of (encoding_of m k old)) made.active keeps are.stored.active_are;
-    phrases_are = phrases_stay old new (unbounded_of (encoding_of m k old)) (length m.base.phrases) made.phrases keeps are.stored.phrases_are;
+    phrases_are = phrases_stay old new (unbounded_of (encoding_of m k old)) m.base (length m.base.phrases) made.phrases keeps are.stored.phrases_are;
     exact_are = subst (λ (g : Grounded). AreExact new (record k { base = g }) exact) are.same are_exact;
   };
 }
@@ -102,7 +102,7 @@ guard_tells m k old new made diagrams guard r are is h = record {
   means = λ v lawful.
       h.means v
       ∙ ap (λ ds. guard_truth (truths_at old ds v) guard) is
-      ∙ ap (λ ts. guard_truth ts guard) (all_truths old (unbounded_of (encoding_of m k old)) made.phrases are.stored.phrases_are v
+      ∙ ap (λ ts. guard_truth ts guard) (all_truths old (unbounded_of (encoding_of m k old)) m.base made.phrases are.stored.phrases_are v
       (lawful_before (unbounded_of (encoding_of m k old)) (worlds_of (encoding_of m k old)) are.stored.first v lawful));
 }
 

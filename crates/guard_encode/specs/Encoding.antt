@@ -109,7 +109,7 @@ pub record AreStored (e : Encoding) (made : Made) : Type 0 where
   pub same_levels : e.diagram.levels ≡ length e.slots
   pub first : Extends (unbounded_of e) (worlds_of e)
   pub active_are : AreActive e.diagram (unbounded_of e) made.active
-  pub phrases_are : ArePhrases e.diagram (unbounded_of e) (length e.machine.base.phrases) made.phrases
+  pub phrases_are : ArePhrases e.diagram (unbounded_of e) e.machine.base (length e.machine.base.phrases) made.phrases
   pub exact_are : AreExact e.diagram (worlds_of e) made.exact
 
 -- an encoder of its parts

@@ -6,3 +6,4 @@ pub mod Spelling
 pub mod Holding
 pub mod Opposites
 pub mod Bounds
+pub mod Others

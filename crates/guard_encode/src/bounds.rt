@@ -13,8 +13,8 @@ use rsml_syntax::Relation;
 use std::alloc::Global;
 
 impl<'m, 'a> Encoder<'m, 'a> {
-    /// True in the worlds in which a cell has at most this number. Where the comparison of a level names the cell, and a level is spare,
-    /// that stands for the bound.
+    /// True in the worlds in which a cell has at most this number. Where the comparison of a level names the cell, a level stands for the
+    /// bound: one that does already, or else a spare one.
     #[tactic(auto, using(crate::proofs::BoundLemmas::keeps_grows, crate::proofs::BoundLemmas::grows_itself))]
     pub fn bound(&mut self, alloc: Global, cell: u32, number: i64) -> Result<Ref, NoMemory>
         requires { cell < length (cells self.old.machine.base.spec) }
@@ -36,7 +36,7 @@ impl<'m, 'a> Encoder<'m, 'a> {
         self.arena.var(level)
     }
 
-    /// A level that stands for that bound, where one is spare.
+    /// A level that stands for that bound, where one does or is spare.
     #[tactic(auto, using(crate::proofs::BoundLemmas::keeps_grows, crate::proofs::BoundLemmas::grows_itself))]
     fn bound_level(
         &mut self,
@@ -55,12 +55,12 @@ impl<'m, 'a> Encoder<'m, 'a> {
             return Ok(None);
         }
         let bound = at_most(alloc, cell, number)?;
-        self.spare_level(bound)
+        self.stand_for(bound)
     }
 
-    /// A spare level that stands for a comparison from now on.
+    /// A level that stands for a comparison from now on, where one does or is spare.
     #[tactic(auto, using(crate::proofs::BoundLemmas::keeps_grows, crate::proofs::BoundLemmas::grows_itself))]
-    fn spare_level(&mut self, bound: GroundPhrase) -> Result<Option<u32>, NoMemory>
+    fn stand_for(&mut self, bound: GroundPhrase) -> Result<Option<u32>, NoMemory>
         requires { PhraseFits (length (cells self.old.machine.base.spec)) bound }
         ensures grows { Grows self.old self.new }
         ensures level { IfOk result (λ found. IfSome found (StandsFor (worlds_of self.new) bound)) }

@@ -7,11 +7,10 @@ ghost use Rattle.keyed_levels.specs.Keyed as keyed;
 ghost use Rattle.guard_encode.specs.Encoding.{HasNoBounds, Keeps, Tells};
 
 use crate::phrases::all_phrases;
-use crate::plan::{Plan, plan_of};
 use crate::reading::named_cells;
 use bdd_core::{Arena, Ref};
 use elaborate::Machine;
-use keyed_levels::KeyedLevels;
+use keyed_levels::{KeyedLevels, Plan};
 use phrase_diagrams::active_states;
 use rsml_base::{List, NoMemory};
 use rsml_ground::GroundGuard;
@@ -69,16 +68,8 @@ impl<'m, 'a> Model for Encoder<'m, 'a> {
 }
 
 impl<'m, 'a> Encoder<'m, 'a> {
-    /// The diagrams of the states and phrases of a machine.
-    pub fn new(alloc: Global, machine: &'m Machine<'a>) -> Result<Encoder<'m, 'a>, NoMemory>
-        ensures { IfOk result (λ e. e.machine ≡ machine.now) }
-    {
-        let plan = plan_of(alloc, machine)?;
-        Encoder::with(alloc, machine, plan, 0)
-    }
-
-    /// The same, by a plan: an order of the levels, what is like each phrase, and comparisons beside the phrases of the machine that
-    /// may have levels. So many levels are spare: bounds take them.
+    /// The diagrams of the states and phrases of a machine, by a plan: an order of the levels, what is like each phrase, and comparisons
+    /// beside the phrases of the machine that may have levels. So many levels are spare: bounds take them.
     pub fn with(
         alloc: Global,
         machine: &'m Machine<'a>,
@@ -134,6 +125,7 @@ impl<'m, 'a> Encoder<'m, 'a> {
             &mut sums,
             &levels,
             active.as_slice(),
+            levels.macros(),
             alike,
         )?;
         let named = named_cells(alloc, &levels)?;

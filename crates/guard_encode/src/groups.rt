@@ -1,24 +1,21 @@
-//! Guards, members and conditions of groups.
-ghost use Rattle.std.specs.Prelude.{◌≡◌, ◌<◌, ◌&&◌, not, false, All, IfOk, Some, length, slice_get};
+//! Members and conditions of groups.
+ghost use Rattle.std.specs.Prelude.{◌≡◌, ◌<◌, ◌&&◌, not, All, IfOk, Some, length, slice_get};
 ghost use Rattle.std.specs.List.{list_any};
-ghost use Rattle.std.specs.Option.{option_map_or};
 ghost use Rattle.rsml_meaning.specs.Instances.{states};
 ghost use Rattle.rsml_meaning.specs.Truth.{view};
 ghost use Rattle.rsml_meaning.specs.Groups as meaning;
 ghost use Rattle.rsml_meaning.specs.Groups.{Group, meets, enabled};
-ghost use Rattle.rsml_ground.specs.Rests.{GuardFits};
-ghost use Rattle.rsml_ground.specs.Truths.{guard_truth, is_active, truths_in};
-ghost use Rattle.ground_groups.specs.declared.group.Member.TheVariants as members;
+ghost use Rattle.rsml_ground.specs.Truths.{is_active};
 ghost use Rattle.ground_groups.specs.Groups.{MemberIs};
 ghost use Rattle.elaborate.specs.Enabled.{enabled_at};
 ghost use Rattle.guard_encode.specs.Encoding.{Tells, Keeps, IsMember};
 
+use crate::enabled::enabled_by;
 use crate::encoder::Encoder;
 use bdd_core::Ref;
 use elaborate::{conditions_are_those_of_the_text, members_are_enabled_as_in_the_text};
 use ground_groups::{GroupKind, Member};
 use rsml_base::NoMemory;
-use rsml_ground::{Definition, GroundCase};
 
 impl<'m, 'a> Encoder<'m, 'a> {
     /// Where a member of a group is enabled.
@@ -29,70 +26,15 @@ impl<'m, 'a> Encoder<'m, 'a> {
         ensures text { IfOk result (λ r. (m : meaning.Member) → MemberIs self.new.machine.base.spec m member
             → Tells self.new (λ w. enabled (view self.new.machine.base.spec w) m) r) }
     {
-        let machine = self.machine;
-        machine.law();
+        self.machine.law();
         members_are_enabled_as_in_the_text();
-        match member {
-            Member::Transition(number) => self.transition(number),
-            Member::SendCase(number) => self.send_case(number),
-            Member::FunctionCase { function, place } => self.case(function, place),
-        }
-    }
-
-    /// Where a transition has an active source and a true guard.
-    fn transition(&mut self, number: u32) -> Result<Ref, NoMemory>
-        requires { number < length self.old.machine.transitions }
-        ensures keeps { Keeps self.old self.new }
-        ensures answer { IfOk result (Tells self.new (λ w. enabled_at self.new.machine w (members.Transition number))) }
-    {
-        let machine = self.machine;
-        machine.law();
-        let transition = machine.transition(number);
-        let source = transition.source();
-        let tested = transition.guard();
-        let guard = self.guard(tested)?;
-        let active = self.active(source);
-        self.and(active, guard)
-    }
-
-    /// Where a case of a send has a true guard.
-    fn send_case(&mut self, number: u32) -> Result<Ref, NoMemory>
-        requires { number < length self.old.machine.send_cases }
-        ensures keeps { Keeps self.old self.new }
-        ensures answer { IfOk result (Tells self.new (λ w. enabled_at self.new.machine w (members.SendCase number))) }
-    {
-        let machine = self.machine;
-        machine.law();
-        let case = machine.send_case(number);
-        let tested = case.guard();
-        self.guard(tested)
-    }
-
-    /// Where a case of a function has a true guard.
-    fn case(&mut self, function: u32, place: u32) -> Result<Ref, NoMemory>
-        requires { function < length self.old.machine.base.definitions }
-        ensures keeps { Keeps self.old self.new }
-        ensures answer { IfOk result (Tells self.new (λ w. enabled_at self.new.machine w (members.FunctionCase function place))) }
-    {
-        let machine = self.machine;
-        let macros = machine.macros();
-        match macros.definition(function) {
-            Definition::Macro(_) => Ok(self.constant(false)),
-            Definition::Function(cases) => self.case_at(cases.as_slice(), place),
-        }
-    }
-
-    /// Where the case at a place has a true guard: nowhere, where there is none.
-    fn case_at(&mut self, cases: &[GroundCase], place: u32) -> Result<Ref, NoMemory>
-        requires { All (λ c. GuardFits (length self.old.machine.base.phrases) c.guard) cases.now }
-        ensures keeps { Keeps self.old self.new }
-        ensures answer { IfOk result (Tells self.new (λ w. option_map_or
-            (λ c. guard_truth (truths_in self.new.machine.base w) c.guard) (slice_get cases.now place) false)) }
-    {
-        match cases.get(place as usize) {
-            Some(case) => self.guard(&case.guard),
-            None => Ok(self.constant(false)),
-        }
+        enabled_by(
+            &mut self.arena,
+            self.active.as_slice(),
+            self.phrases.as_slice(),
+            self.machine,
+            member,
+        )
     }
 
     /// Where the condition of a group holds: its state is active, and none of the states inside it that have a group on its

@@ -6,5 +6,5 @@ use Rattle.guard_encode.proofs.phrases.all_phrases.Given as goal
 abbrev pub invariant-loop-number : goal.invariant-loop-number
 invariant-loop-number l = record {
   keeps : Keeps l.fn.arena l.arena;
-  so_far : ArePhrases l.arena l.levels l.number l.diagrams.items;
+  so_far : ArePhrases l.arena l.levels l.macros l.number l.diagrams.items;
 }

@@ -8,8 +8,8 @@ use Rattle.guard_encode.specs.Encoding.{worlds_of}
 use Rattle.guard_encode.proofs.BoundLemmas.{bound_fits}
 use Rattle.guard_encode.proofs.encoder.Encoder.bound_level.Goals as goal
 
-pub spare_level-requires : goal.spare_level-requires
-spare_level-requires c =
+pub stand_for-requires : goal.stand_for-requires
+stand_for-requires c =
     let many = length (cells c.args.self.now.machine.base.spec) in
     subst (PhraseFits many) (sym c.in_ok-bound.ensures)
     (bound_fits many c.args.cell (to_z w64 (of_z w64 c.args.number)) c.requires (sym c.is_small.ensures ∙ c.if-not-is_small.false))
@@ -17,5 +17,5 @@ spare_level-requires c =
 pub returns-clause-level : goal.returns-clause-level
 returns-clause-level c =
     let fits : FitsSigned w64 c.args.number = search rules in
-    subst (λ (n : ℤ). IfOk c.spare_level.result (λ found. IfSome found (StandsFor (worlds_of c.spare_level.new.self) (at_most c.args.cell n)))) (to_z-of_z w64 c.args.number fits)
-    (subst (λ (p : GroundPhrase). IfOk c.spare_level.result (λ found. IfSome found (StandsFor (worlds_of c.spare_level.new.self) p))) c.in_ok-bound.ensures c.spare_level.ensures.level)
+    subst (λ (n : ℤ). IfOk c.stand_for.result (λ found. IfSome found (StandsFor (worlds_of c.stand_for.new.self) (at_most c.args.cell n)))) (to_z-of_z w64 c.args.number fits)
+    (subst (λ (p : GroundPhrase). IfOk c.stand_for.result (λ found. IfSome found (StandsFor (worlds_of c.stand_for.new.self) p))) c.in_ok-bound.ensures c.stand_for.ensures.level)

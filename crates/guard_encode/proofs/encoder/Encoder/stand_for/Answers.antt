@@ -8,7 +8,7 @@ use Rattle.keyed_levels.specs.Keyed.{PhraseFits, StandsFor}
 use Rattle.guard_encode.specs.Encoding.{Encoding, Grows, encoding_of}
 use Rattle.guard_encode.proofs.BoundLemmas.{bound_encoded, bound_exact, bound_grows, grows_itself, own_stands}
 use Rattle.guard_encode.proofs.StepLemmas.{own_exact}
-use Rattle.guard_encode.proofs.encoder.Encoder.spare_level.Goals as goal
+use Rattle.guard_encode.proofs.encoder.Encoder.stand_for.Goals as goal
 
 pub stand_for-level-requires : goal.stand_for-level-requires
 stand_for-level-requires c =
