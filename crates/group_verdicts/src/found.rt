@@ -12,6 +12,7 @@ use crate::least::least_world;
 use elaborate::Machine;
 use finding_texts::Verdict;
 use guard_encode::Encoder;
+use level_order::plan_of;
 use rsml_base::NoMemory;
 use std::alloc::Global;
 
@@ -19,8 +20,16 @@ use std::alloc::Global;
 pub fn verdicts(alloc: Global, machine: &Machine<'_>) -> Result<Vec<Verdict>, NoMemory>
     ensures { IfOk result (λ v. AllZip (IsVerdict machine.now.base.spec) (groups machine.now.base.spec) (map verdict_of v.items)) }
 {
-    let mut encoder = Encoder::new(alloc, machine)?;
+    let mut encoder = encoder_of(alloc, machine)?;
     verdicts_by(alloc, &mut encoder)
+}
+
+/// The diagrams of a machine.
+fn encoder_of<'m, 'a>(alloc: Global, machine: &'m Machine<'a>) -> Result<Encoder<'m, 'a>, NoMemory>
+    ensures { IfOk result (λ e. e.machine ≡ machine.now) }
+{
+    let plan = plan_of(alloc, machine)?;
+    Encoder::with(alloc, machine, plan, 0)
 }
 
 /// The same, by the diagrams of an encoder of the machine.
@@ -39,7 +48,7 @@ pub fn verdicts_by(alloc: Global, encoder: &mut Encoder<'_, '_>) -> Result<Vec<V
 
 /// The first group of a machine for whose verdict memory is refused. None where it is refused for none, or before the first.
 pub fn refused_group(alloc: Global, machine: &Machine<'_>) -> Option<u32> {
-    let mut encoder = Encoder::new(alloc, machine).ok()?;
+    let mut encoder = encoder_of(alloc, machine).ok()?;
     first_refused(alloc, &mut encoder)
 }
 

@@ -4,11 +4,7 @@ use Rattle.std.specs.List.{AllZip}
 use Rattle.rsml_meaning.specs.Groups.{groups}
 use Rattle.elaborate.specs.Machine.{GroundMachine}
 use Rattle.world_columns.specs.GapsOf.{AreGroupGaps}
-use Rattle.guard_encode.proofs.BoundLemmas.{none_beside}
 use Rattle.gap_tables.proofs.group.group_gaps.Goals as goal
-
-pub with-requires : goal.with-requires
-with-requires c = none_beside _ _ c.in_ok-plan.ensures
 
 pub gaps_by-requires-clause-texts : goal.gaps_by-requires-clause-texts
 gaps_by-requires-clause-texts c = subst (λ (m : GroundMachine). c.args.texts.now ≡ m.base.spec) (sym c.in_ok-encoder.ensures.machine) c.requires.texts
