@@ -1,4 +1,4 @@
-use crate::instances::{Asked, Numbers, instances_of};
+use crate::instances::{Numbers, instances_of};
 use crate::items::{Item, guard_count, item_in, item_of};
 use crate::telling::{tell_item, tell_untold};
 use crate::verdicts::{Verdict, find_verdicts, width_of_first};
@@ -8,6 +8,7 @@ use rsml_base::NoMemory;
 use rsml_names::{Globals, size_of};
 use rsml_syntax::{Body, Decl, StateDecl, Transition};
 use source_notes::Notes;
+use table_notes::Asked;
 
 /// Tells what is found of a guard with these instances.
 fn tell_instances(

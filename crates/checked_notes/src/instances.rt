@@ -6,16 +6,10 @@ use elaborate::Machine;
 use ground_members::SharedTransition;
 use macros::Macros;
 use rsml_base::{NoMemory, Text};
-use rsml_ground::{Definition, GroundGuard};
+use rsml_ground::Definition;
 use rsml_names::transitions_of;
 use std::alloc::Global;
-
-/// A guard of an instance: the rows of its table, none where it is always true, and the state that is to be active besides.
-#[derive(Clone, Copy)]
-pub struct Asked<'m> {
-    pub rows: &'m [GroundRow],
-    pub source: Option<u32>,
-}
+use table_notes::{Asked, rows_of};
 
 /// The numbers of so many instances: the first, and what is between two of them.
 #[derive(Clone, Copy)]
@@ -30,13 +24,6 @@ pub struct Numbers {
 struct Instances<'m> {
     all: Vec<Asked<'m>>,
     is_refused: bool,
-}
-
-fn rows_of_guard(guard: &GroundGuard) -> &[GroundRow] {
-    match guard {
-        GroundGuard::Always => &[],
-        GroundGuard::Table(table) => table.rows.as_slice(),
-    }
 }
 
 /// The macro or function instance of a number.
@@ -56,7 +43,7 @@ fn definition_at<'m>(macros: &'m Macros<'_>, number: usize) -> Option<&'m Defini
 fn rows_of_definition(definition: &Definition, place: usize) -> Option<&[GroundRow]> {
     match definition {
         Definition::Macro(table) => Some(table.rows.as_slice()),
-        Definition::Function(cases) => Some(rows_of_guard(&cases.get(place)?.guard)),
+        Definition::Function(cases) => Some(rows_of(&cases.get(place)?.guard)),
     }
 }
 
@@ -67,7 +54,7 @@ fn rows_at<'m>(machine: &'m Machine<'_>, item: Item<'_>, number: usize) -> Optio
         Item::FunctionCase { place, .. } => {
             rows_of_definition(definition_at(machine.macros(), number)?, place)
         }
-        Item::SendCase { .. } => Some(rows_of_guard(machine.all_send_cases().get(number)?.guard())),
+        Item::SendCase { .. } => Some(rows_of(machine.all_send_cases().get(number)?.guard())),
         Item::Transition { .. } => None,
     }
 }
@@ -122,7 +109,7 @@ impl<'m> Instances<'m> {
     fn add_transitions(&mut self, machine: &'m Machine<'_>, source: &Text, place: usize) {
         for transition in machine.all_transitions() {
             if is_instance(machine, transition, source, place) {
-                self.add(rows_of_guard(transition.guard()), Some(transition.source()));
+                self.add(rows_of(transition.guard()), Some(transition.source()));
             }
         }
     }

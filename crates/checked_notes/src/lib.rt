@@ -11,8 +11,5 @@ mod noting;
 mod telling;
 mod verdicts;
 
-pub use asking::world_of_column;
 pub use enabled::tell_enabled;
-pub use instances::Asked;
-pub use noting::{NODES, checked_notes};
-pub use telling::cell_place;
+pub use noting::checked_notes;

@@ -12,11 +12,13 @@ use finding_texts::Verdict;
 use group_verdicts::refused_group;
 use guard_encode::Encoder;
 use instance_texts::Texts;
+use level_order::plan_of;
 use rsml_names::Globals;
 use rsml_syntax::{Checked, NoMemory};
 use source_notes::Notes;
 use specification_notes::tell_unused;
 use std::alloc::Global;
+use table_notes::NODES;
 use written_members::{Scene, Source, tell_clashes, tell_loops};
 
 /// A specification that was read from a file of this name, and what was found of its groups, unless memory was refused for that.
@@ -26,9 +28,6 @@ struct Subject<'s> {
     checked: &'s Checked,
     verdicts: Option<&'s [Verdict]>,
 }
-
-/// By how many nodes the diagrams grow for notes and for mends, each: so many are made in less than a second.
-pub const NODES: usize = 400_000;
 
 /// Tells for which group memory is refused.
 fn tell_refusal(notes: &mut Notes<'_>, scene: &Scene<'_, '_>) -> Result<(), NoMemory> {
@@ -66,7 +65,8 @@ fn tell_scene(
     let Some(verdicts) = subject.verdicts else {
         return tell_refusal(notes, scene);
     };
-    let mut encoder = Encoder::new(notes.alloc(), scene.machine)?;
+    let plan = plan_of(notes.alloc(), scene.machine)?;
+    let mut encoder = Encoder::with(notes.alloc(), scene.machine, plan, 0)?;
     tell_all(notes, subject, verdicts, scene, chains, &mut encoder)
 }
 

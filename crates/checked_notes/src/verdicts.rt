@@ -2,10 +2,10 @@
 
 use crate::asking::{is_within, never_holds};
 use crate::columns::{are_apart, width_of};
-use crate::instances::Asked;
 use guard_encode::Encoder;
 use rsml_base::NoMemory;
 use std::alloc::Global;
+use table_notes::Asked;
 
 /// What is found of a column.
 #[derive(Clone, Copy, PartialEq, Eq)]

@@ -1,10 +1,9 @@
 use and_or_tables::{GroundRow, Truths};
-use checked_notes::{Asked, world_of_column};
-use finding_notes::TruthTable;
 use guard_encode::Encoder;
 use rsml_base::NoMemory;
 use rsml_syntax::World;
 use std::alloc::Global;
+use table_notes::{Asked, TruthTable, world_of_column};
 
 /// Columns of the table of an instance, from the first of them to the end.
 #[derive(Clone, Copy)]

@@ -2,11 +2,12 @@
 use crate::parts::{Heading, Part};
 use crate::telling::{put_of, tell_untried, tell_untrue_column, tell_untrue_part};
 use crate::written::{Written, alike_from, instances};
-use checked_notes::NODES;
 use coverage::Counts;
 use guard_encode::Encoder;
+use level_order::plan_of;
 use rsml_base::NoMemory;
 use source_notes::Notes;
+use table_notes::NODES;
 use text_writer::{Draft, Writer, put_number};
 use written_members::Scene;
 
@@ -154,7 +155,8 @@ pub fn tell_covered(
     counts: &Counts<'_, '_>,
     parts: &[Part<'_>],
 ) -> Result<(), NoMemory> {
-    let mut encoder = Encoder::new(notes.alloc(), scene.machine)?;
+    let plan = plan_of(notes.alloc(), scene.machine)?;
+    let mut encoder = Encoder::with(notes.alloc(), scene.machine, plan, 0)?;
     encoder.limit(NODES);
     let all = instances(notes.alloc(), scene)?;
     let mut told = Told {

@@ -1,14 +1,13 @@
 //! Columns of macros and cases of functions.
 use crate::columns::Columns;
-use checked_notes::cell_place;
 use elaborate::Machine;
-use finding_notes::rows_of;
 use ground_groups::Member;
 use rsml_base::NoMemory;
 use rsml_ground::Definition;
 use rsml_names::size_of;
 use rsml_syntax::Decl;
 use std::alloc::Global;
+use table_notes::{cell_place, rows_of};
 use written_members::{Scene, Written, definition_of, width, written_at};
 
 /// A column of a macro instance, or a case of a function instance: whether some round asked for it, and whether it was true in one that did.

@@ -4,13 +4,13 @@ ghost use Rattle.rsml_meaning.specs.Worlds.{IsWorld};
 use crate::parts::{Part, parts_of};
 use and_or_tables::{GroundRow, Truths};
 use elaborate::Machine;
-use finding_notes::rows_of;
 use ground_groups::Member;
 use ground_members::{GroundAnswer, GroundValue};
 use rsml_base::NoMemory;
 use rsml_ground::{Definition, GroundPhrase};
 use rsml_syntax::World;
 use std::alloc::Global;
+use table_notes::rows_of;
 use written_members::{definition_of, guard_of};
 
 /// A mark for each phrase that a round asks for, and then for each macro and function instance.

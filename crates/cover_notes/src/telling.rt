@@ -2,8 +2,6 @@
 use crate::columns::Columns;
 use crate::parts::Heading;
 use crate::written::{By, Written};
-use checked_notes::{Asked, cell_place};
-use finding_notes::{tell_column, tell_example};
 use ground_groups::Member;
 use guard_encode::Encoder;
 use instance_texts::{put_case_label, put_path};
@@ -11,6 +9,7 @@ use rsml_base::NoMemory;
 use rsml_names::name_of;
 use rsml_syntax::Decl;
 use source_notes::Notes;
+use table_notes::{Asked, cell_place, tell_column, tell_example};
 use text_writer::{Draft, Writer, put_number};
 use written_members::{Scene, put_member, written_at};
 

@@ -1,10 +1,10 @@
 use crate::columns::Columns;
 use coverage::{Counts, Tally};
 use elaborate::Machine;
-use finding_notes::rows_of;
 use ground_groups::Member;
 use rsml_base::NoMemory;
 use std::alloc::Global;
+use table_notes::rows_of;
 use written_members::{Scene, guard_of, written_at};
 
 /// Where something begins in the text, and its number: of transitions and cases of sends, those of cases come behind those of transitions.

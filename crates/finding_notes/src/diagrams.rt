@@ -4,7 +4,6 @@ ghost use Rattle.bdd_core.specs.Diagram.{IsRef};
 ghost use Rattle.rsml_ground.specs.Rests.{GuardFits};
 ghost use Rattle.guard_encode.specs.Encoding.{Keeps};
 
-use crate::truth_table::{TruthTable, cell_at, width};
 use and_or_tables::{GroundRow, GroundTable};
 use bdd_core::Ref;
 use guard_encode::Encoder;
@@ -12,6 +11,7 @@ use rsml_base::{List, NoMemory};
 use rsml_ground::GroundGuard;
 use rsml_syntax::Cell;
 use std::alloc::Global;
+use table_notes::{TruthTable, cell_at, width};
 
 /// A row that is added to a table: its phrase, and its cell in the columns that hold. In the others it has dots.
 #[derive(Clone, Copy)]

@@ -1,24 +1,14 @@
 //! Tables of members, drawn with the cells that fail.
 
-use crate::holdings::put_padded;
-use crate::{TruthTable, cell_at, fails, is_true};
 use and_or_tables::{GroundRow, Truths};
 use ground_groups::Member;
 use rsml_base::NoMemory;
 use rsml_ground::GroundGuard;
 use rsml_syntax::Cell;
-use source_notes::{Notes, characters_in};
+use source_notes::Notes;
+use table_notes::{TruthTable, fails, is_true, letter, put_padded, text_at, widest};
 use text_writer::{Draft, Writer, put_number};
 use written_members::{Scene, guard_of, phrases, put_member, written_at};
-
-/// How a cell is written.
-pub fn letter(cell: Cell) -> &'static [u8] {
-    match cell {
-        Cell::T => b"T",
-        Cell::F => b"F",
-        Cell::Dot => b".",
-    }
-}
 
 /// Puts the cells of a row whose phrase has this truth, `!` behind each that fails.
 fn put_cells(line: &mut Draft, cells: &[Cell], truth: bool) {
@@ -43,26 +33,9 @@ fn tell_row(notes: &mut Notes<'_>, row: &GroundRow, phrase: &[u8], width: usize,
     notes.keep(line);
 }
 
-/// How wide texts are.
-fn width(texts: &[Vec<u8>]) -> usize {
-    let mut width: usize = 0;
-    for text in texts {
-        width = width.max(characters_in(text.as_slice()));
-    }
-    width
-}
-
-/// The text at a place, empty where there is none.
-pub fn text_at(texts: &[Vec<u8>], place: usize) -> &[u8] {
-    match texts.get(place) {
-        Some(text) => text.as_slice(),
-        None => &[],
-    }
-}
-
 /// Tells the rows of a table with these phrases.
 fn tell_rows(notes: &mut Notes<'_>, table: TruthTable<'_>, phrases: &[Vec<u8>]) {
-    let width = width(phrases);
+    let width = widest(phrases);
     for (place, row) in table.rows.iter().enumerate() {
         tell_row(notes, row, text_at(phrases, place), width, table.truths);
     }
@@ -147,24 +120,4 @@ pub fn tell_member(
         }
         None => Ok(()),
     }
-}
-
-/// Tells one column of a table that is the first behind an offset.
-pub fn tell_column(
-    notes: &mut Notes<'_>,
-    text: &[u8],
-    rows: &[GroundRow],
-    from: usize,
-    column: usize,
-) -> Result<(), NoMemory> {
-    let phrases = phrases(notes.alloc(), text, from)?;
-    let width = width(phrases.as_slice());
-    for (place, row) in rows.iter().enumerate() {
-        let mut line = notes.line("    ");
-        put_padded(&mut line, text_at(phrases.as_slice(), place), width);
-        line.put(b" | ");
-        line.put(letter(cell_at(row, column)));
-        notes.keep(line);
-    }
-    Ok(())
 }

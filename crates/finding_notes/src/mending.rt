@@ -1,11 +1,8 @@
 //! Rows that would mend a group with two enabled members.
 
-use crate::drawing::{letter, text_at};
 use crate::finding::Finding;
 use crate::sharing::{alike_at, alike_count, beside};
-use crate::{
-    Added, Change, TruthTable, cell_at, columns_stay, is_sound_with, is_true, member_count, rows_of,
-};
+use crate::{Added, Change, columns_stay, is_sound_with};
 use and_or_tables::{GroundRow, Truths};
 use elaborate::Machine;
 use finding_texts::Verdict;
@@ -15,6 +12,7 @@ use rsml_base::NoMemory;
 use rsml_ground::GroundGuard;
 use rsml_syntax::Cell;
 use source_notes::Notes;
+use table_notes::{TruthTable, cell_at, is_true, letter, member_count, rows_of, text_at};
 use text_writer::{Draft, Writer};
 use written_members::{Scene, guard_of, phrases, written_at};
 

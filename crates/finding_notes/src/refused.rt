@@ -1,13 +1,12 @@
 //! What is told of a group for which memory was refused.
 
 use crate::heads::put_group;
-use crate::member_at;
-use crate::reads::{Read, Reads, read_group};
 use elaborate::Machine;
 use rsml_base::NoMemory;
 use rsml_ground::{Definition, GroundOperand, GroundPhrase, GroundSum};
 use source_notes::Notes;
 use std::alloc::Global;
+use table_notes::{Read, Reads, member_at, read_group};
 use text_writer::{Draft, Writer, put_number};
 use written_members::{Scene, definition_of, written_at};
 

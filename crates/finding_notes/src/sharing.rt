@@ -1,9 +1,9 @@
 //! Members that are written as one.
 
-use crate::{member_at, member_count};
 use elaborate::Machine;
 use ground_groups::Member;
 use ground_members::{SharedSendCase, SharedTransition};
+use table_notes::{member_at, member_count};
 use written_members::{Scene, written_at};
 
 /// The place of a member in its component, send or function.

@@ -1,9 +1,9 @@
 //! Which members of a group are shown, and in which order.
 
 use crate::finding::Finding;
-use crate::{TruthTable, member_at, member_count, rows_of};
 use elaborate::Machine;
 use ground_groups::Member;
+use table_notes::{TruthTable, member_at, member_count, rows_of};
 use written_members::guard_of;
 
 /// A member at a place of a group, and how many cells of its guard fail at least.

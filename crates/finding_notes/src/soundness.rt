@@ -5,13 +5,13 @@ ghost use Rattle.rsml_meaning.specs.Groups.{groups};
 ghost use Rattle.guard_encode.specs.Encoding.{Keeps};
 
 use crate::diagrams::{Added, columns, whole_column};
-use crate::members::{member_at, member_count};
 use bdd_core::Ref;
 use ground_groups::Member;
 use guard_encode::Encoder;
 use rsml_base::NoMemory;
 use rsml_ground::GroundGuard;
 use std::alloc::Global;
+use table_notes::{member_at, member_count};
 use written_members::guard_of;
 
 /// A member, and the row that is added to its table.

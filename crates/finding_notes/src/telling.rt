@@ -1,9 +1,7 @@
 use crate::drawing::tell_member;
 use crate::finding::Finding;
 use crate::heads::tell_head;
-use crate::holdings::tell_world;
 use crate::mending::tell_mends;
-use crate::reads::{Reads, read_group};
 use crate::shown::{first_two, next, shown_count};
 use crate::truths::{filled, is_world};
 use finding_texts::Verdict;
@@ -11,6 +9,7 @@ use guard_encode::Encoder;
 use rsml_base::NoMemory;
 use rsml_syntax::World;
 use source_notes::{Notes, Piece};
+use table_notes::{Reads, read_group, tell_world};
 use written_members::Scene;
 
 /// How many members of a group are drawn at most.

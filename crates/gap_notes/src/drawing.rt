@@ -3,7 +3,8 @@
 use crate::rows::Row;
 use rsml_base::NoMemory;
 use rsml_syntax::Cell;
-use source_notes::{Notes, characters_in};
+use source_notes::Notes;
+use table_notes::{letter, put_padded, widest};
 use text_writer::{Draft, Writer};
 use written_members::{Scene, phrases};
 
@@ -12,15 +13,6 @@ fn cell_at(column: &[Row], place: usize) -> Cell {
     match column.get(place) {
         Some(row) => row.cell,
         None => Cell::Dot,
-    }
-}
-
-/// How a cell is written.
-fn letter(cell: Cell) -> &'static [u8] {
-    match cell {
-        Cell::T => b" T",
-        Cell::F => b" F",
-        Cell::Dot => b" .",
     }
 }
 
@@ -55,15 +47,6 @@ fn texts_of(
     Ok(texts)
 }
 
-/// How wide texts are.
-fn width_of(texts: &[Vec<u8>]) -> usize {
-    let mut width: usize = 0;
-    for text in texts {
-        width = width.max(characters_in(text.as_slice()));
-    }
-    width
-}
-
 /// Tells a row with its phrase, in this width.
 fn tell_row(
     notes: &mut Notes<'_>,
@@ -73,12 +56,10 @@ fn tell_row(
     width: usize,
 ) {
     let mut line = notes.line("    ");
-    line.put(phrase);
-    for _ in characters_in(phrase)..width {
-        line.put(b" ");
-    }
+    put_padded(&mut line, phrase, width);
     line.put(b" |");
     for column in columns {
+        line.put(b" ");
         line.put(letter(cell_at(column.as_slice(), place)));
     }
     line.put(b";");
@@ -93,7 +74,7 @@ pub fn tell_rows(
     columns: &[Vec<Row>],
 ) -> Result<(), NoMemory> {
     let texts = texts_of(notes, scene, rows, columns)?;
-    let width = width_of(texts.as_slice());
+    let width = widest(texts.as_slice());
     notes.say(if width == 0 {
         "it is so always"
     } else {

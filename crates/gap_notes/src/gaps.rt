@@ -1,10 +1,10 @@
 //! The groups that are not sound.
 
 use crate::failing::Failing;
-use finding_notes::{member_at, member_count};
 use ground_groups::GroupKind;
 use rsml_base::NoMemory;
 use std::alloc::Global;
+use table_notes::{member_at, member_count};
 use world_columns::GroupGaps;
 use written_members::{Scene, Written, written_at};
 

@@ -5,6 +5,7 @@ use crate::telling::tell_groups;
 use elaborate::Machine;
 use guard_encode::Encoder;
 use instance_texts::Texts;
+use level_order::plan_of;
 use rsml_base::NoMemory;
 use rsml_names::Globals;
 use rsml_syntax::Checked;
@@ -39,7 +40,8 @@ fn tell_subject(
         decls,
         source: &source,
     };
-    let mut encoder = Encoder::new(notes.alloc(), subject.machine)?;
+    let plan = plan_of(notes.alloc(), subject.machine)?;
+    let mut encoder = Encoder::with(notes.alloc(), subject.machine, plan, 0)?;
     tell_groups(notes, &scene, &mut encoder, told)
 }
 

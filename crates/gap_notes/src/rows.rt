@@ -1,11 +1,11 @@
 //! Rows of the tables of a group, by where they are written.
 
 use and_or_tables::GroundRow;
-use finding_notes::{member_at, member_count, rows_of};
 use ground_groups::Member;
 use rsml_base::NoMemory;
 use rsml_syntax::Cell;
 use std::alloc::Global;
+use table_notes::{member_at, member_count, rows_of};
 use written_members::{Scene, guard_of, written_at};
 
 /// A row of a column: an offset behind which its table is the first, its place in that, its phrase in a group, and its cell.

@@ -11,14 +11,12 @@ use ground_groups::GroupKind;
 use guard_encode::Encoder;
 use rsml_base::NoMemory;
 use source_notes::{Notes, Piece};
+use table_notes::NODES;
 use world_columns::GroupGaps;
 use written_members::Scene;
 
 /// How many groups are told at most.
 const MOST_GROUPS: usize = 50;
-
-/// By how many nodes the diagrams grow for one group: so many are made in less than a second.
-const NODES: usize = 400_000;
 
 /// Tells of a group in which none is enabled whether two are elsewhere, and whether a member with the columns would mend it.
 fn tell_mend(

@@ -1,5 +1,5 @@
-use Rattle.checked_notes.proofs.PartLemmas.{parts_fit, some_part}
-use Rattle.checked_notes.proofs.columns.column_guard.Goals as goal
+use Rattle.table_notes.proofs.PartLemmas.{parts_fit, some_part}
+use Rattle.table_notes.proofs.columns.column_guard.Goals as goal
 
 pub returns-else-is_empty : goal.returns-else-is_empty
 returns-else-is_empty c =

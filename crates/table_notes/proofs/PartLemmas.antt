@@ -7,7 +7,7 @@ use Rattle.and_or_tables.specs.declared.ground.GroundRow.{GroundRow}
 use Rattle.and_or_tables.specs.declared.ground.GroundTable.{GroundTable}
 use Rattle.and_or_tables.proofs.Shapes.{IsTable-made}
 use Rattle.rsml_ground.specs.Rests.{TableFits}
-use Rattle.checked_notes.specs.Columns.{AreParts}
+use Rattle.table_notes.specs.Columns.{AreParts}
 
 abbrev IsSingle : GroundRow → Type 0
 IsSingle row = length row.cells ≡ 1

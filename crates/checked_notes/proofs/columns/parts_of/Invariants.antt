@@ -1,5 +1,0 @@
-use Rattle.checked_notes.specs.Columns.{AreParts}
-use Rattle.checked_notes.proofs.columns.parts_of.Given as goal
-
-abbrev pub invariant-loop-row : goal.invariant-loop-row
-invariant-loop-row l = AreParts l.phrases l.parts
