@@ -1,0 +1,11 @@
+pub mod EndLemmas
+pub mod FirstLemmas
+pub mod GiftLemmas
+pub mod MoveLemmas
+pub mod RankLemmas
+pub mod RoundLemmas
+pub mod StateLemmas
+pub mod SubsetLemmas
+pub mod TableLemmas
+pub mod ToldLemmas
+pub mod TurningLemmas
