@@ -37,8 +37,8 @@ pub fn put_head<W: Writer>(
     put_line_end(writer);
 }
 
-// Writes what of a world is not least.
-fn put_world<W: Writer>(writer: &mut W, machine: &Machine<'_>, texts: &Texts<'_>, world: &World)
+/// Writes what of a world is not least: the rows of a finding.
+pub fn put_world<W: Writer>(writer: &mut W, machine: &Machine<'_>, texts: &Texts<'_>, world: &World)
     requires texts { texts.now ≡ machine.now.base.spec }
     requires world { IsWorld machine.now.base.spec world.now }
     ensures { Writes (W.state writer.old) (W.text writer.old)

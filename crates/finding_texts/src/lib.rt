@@ -12,6 +12,7 @@ mod states;
 mod verdict;
 
 pub use findings::Findings;
-pub use found::put_head;
+pub use found::{put_head, put_world};
+pub use members::put_member;
 pub use states::put_state;
 pub use verdict::Verdict;

@@ -28,8 +28,8 @@ fn put_case_at<W: Writer>(writer: &mut W, place: u32)
     put_number(writer, u64::from(place) + 1);
 }
 
-// Writes the label of a member.
-fn put_member<W: Writer>(writer: &mut W, machine: &Machine<'_>, member: Member)
+/// Writes the label of a member.
+pub fn put_member<W: Writer>(writer: &mut W, machine: &Machine<'_>, member: Member)
     requires { IsMember machine.now.base.spec member }
     ensures { (m : meaning.Member) → MemberIs machine.now.base.spec m member
         → Writes (W.state writer.old) (W.text writer.old) (member_label m)

@@ -7,6 +7,7 @@ mod keeping;
 mod kept_text;
 mod texts;
 
+pub use fault_lines::{lexical_fault, parse_fault, rule_fault};
 pub use judging::{Judgement, judge};
 pub use keeping::kept;
 pub use kept_text::Kept;
