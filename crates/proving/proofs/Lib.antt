@@ -1,0 +1,5 @@
+pub mod ClaimLemmas
+pub mod Growth
+pub mod OneProve
+pub mod ProveLemmas
+pub mod TextLemmas
