@@ -1,0 +1,4 @@
+pub mod CompareLemmas
+pub mod ExplainedLemmas
+pub mod OneSame
+pub mod TextLemmas

@@ -1,0 +1,4 @@
+pub mod DifferenceText
+pub mod Laws
+pub mod Outputs
+pub mod Steps
