@@ -22,7 +22,8 @@ use Rattle.gapping.specs.Outputs as gapping
 use Rattle.gapping.proofs.GapLemmas.{gaps_texts, told_status}
 use Rattle.gapping.proofs.ExplainedLemmas.{explained_gaps_texts}
 use Rattle.following.specs.declared.event_action.EventAction.{EventAction}
-use Rattle.rsml.specs.Commands.{Command, act, follow, specification_file, Names}
+use Rattle.pairing.specs.declared.pair_action.PairAction.{PairAction}
+use Rattle.rsml.specs.Commands.{Command, act, follow, pair, specification_file, Names}
 use Rattle.rsml.specs.Commands as commands
 use Rattle.rsml.specs.Output.{ActionOutput}
 use Rattle.rsml.specs.Promises.{judged_answers, layout_answers, answers_of}
@@ -132,3 +133,7 @@ names_specification c file name is e = commands.specification c name (is ∙ ap 
 pub names_events : (c : Command) (does : EventAction) (file events name : Bytes) → c ≡ follow does file events → name ≡ events → Names c name
 names_events c does file events name is e =
     subst (λ (d : Command). Names d name) (sym is) (subst (λ (x : Bytes). Names (follow does file events) x) (sym e) (commands.events does file events))
+
+pub names_other : (c : Command) (does : PairAction) (file other name : Bytes) → c ≡ pair does file other → name ≡ other → Names c name
+names_other c does file other name is e =
+    subst (λ (d : Command). Names d name) (sym is) (subst (λ (x : Bytes). Names (pair does file other) x) (sym e) (commands.other does file other))

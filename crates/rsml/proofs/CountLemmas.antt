@@ -1,7 +1,7 @@
 -- The number that digits write, digit by digit.
 use Rattle.std.proofs.Common.{◌≡◌, ℕ, ◌+◌, ◌-◌, ◌*◌, ◌<◌, ◌≤◌, List, Bool, true, false, [], ◌∷◌, length, drop, get_or, Option, Some, None, refl, sym, ap, ◌∙◌, subst, arith}
 use Rattle.std.specs.Prelude.{if◌then◌else◌, ◌==◌, ◌&&◌, codes, fold, nat_le, option_and_then}
-use Rattle.std.specs.Option.{option_map}
+use Rattle.std.specs.Option.{option_map, option_or}
 use Rattle.std.specs.Char.{is_ascii_digit}
 use Rattle.std.specs.Str.{byte, all_ascii_digits}
 use Rattle.std.proofs.lemmas.Bool.Decides.{nat_tests}
@@ -9,7 +9,8 @@ use Rattle.std.proofs.lemmas.List.{drop_all, drop_more}
 use Rattle.rsml_meaning.specs.EventLines.{Bytes, digits_number}
 use Rattle.rsml_syntax.specs.text.Names.{same}
 use Rattle.following.specs.declared.event_action.EventAction.{EventAction}
-use Rattle.rsml.specs.Commands.{Command, act, follow, demo, version, command_of, with_file, with_files, with_columns, with_explained_columns, explains_gaps, action_of, event_action_of, explained_action_of, IsCounted, AreCounted}
+use Rattle.pairing.specs.declared.pair_action.PairAction.{PairAction}
+use Rattle.rsml.specs.Commands.{Command, act, follow, pair, demo, version, command_of, command_on, explained_command_on, with_file, with_files, with_texts, with_columns, with_explained_columns, explains_gaps, action_of, event_action_of, explained_action_of, pair_action_of, explained_pair_action_of, IsCounted, AreCounted}
 use Rattle.rsml.specs.Counts.{most, within, count_of}
 use Rattle.rsml.specs.declared.command.Action.{Action}
 use Rattle.rsml.specs.declared.command.Action.TheVariants as action
@@ -82,6 +83,13 @@ module _ (P : Command → Type 0) where
   of_events file events c None h e = absurd (let no : ⊥ = cc in no)
   of_events file events c (Some does) h e = let same : follow does file events ≡ c = cc in subst P same (h does)
 
+  -- of those on two texts, and of these
+  of_two : (file other : Bytes) (c : Command) (o : Option PairAction) (p : Option EventAction) → ((does : PairAction) → P (pair does file other))
+      → ((does : EventAction) → P (follow does file other)) → option_or (option_map (with_texts file other) o) (option_map (with_files file other) p) ≡ Some c
+      → P c
+  of_two file other c (Some does) p h k e = let same : pair does file other ≡ c = cc in subst P same (h does)
+  of_two file other c None p h k e = of_events file other c p k e
+
   -- of the commands that a number makes
   of_count : (make : ℕ → Command) (limit : ℕ) (word : Bytes) (c : Command) (o : Option ℕ) → count_of limit word ≡ o
       → ((n : ℕ) → (1 ≤ n) × (n ≤ limit) → P (make n)) → option_map make o ≡ Some c → P c
@@ -127,16 +135,15 @@ are_counted (word ∷ file ∷ []) c e = by (same word (codes "demo")) e
     by : (b : Bool) → (if b then option_map demo (count_of 64 file) else option_map (with_file file) (action_of word)) ≡ Some c → AreCounted c
     by true f = of_count AreCounted demo 64 file c (count_of 64 file) refl (λ n h. h) f
     by false f = of_action AreCounted file c (action_of word) (λ does g. plain word does g) f
-are_counted (word ∷ file ∷ events ∷ []) c e = by (same word (codes "gaps")) e
+are_counted (word ∷ file ∷ other ∷ []) c e = by (same word (codes "gaps")) e
   where
-    by : (b : Bool) → (if b then option_map (with_columns file) (count_of 99 events) else option_map (with_files file events) (event_action_of word)) ≡ Some c
-        → AreCounted c
-    by true f = of_count AreCounted (with_columns file) 99 events c (count_of 99 events) refl (λ n h. h) f
-    by false f = of_events AreCounted file events c (event_action_of word) (λ does. tt) f
-are_counted (first ∷ word ∷ file ∷ events ∷ []) c e = by (explains_gaps first word) e
+    by : (b : Bool) → (if b then option_map (with_columns file) (count_of 99 other) else command_on word file other) ≡ Some c → AreCounted c
+    by true f = of_count AreCounted (with_columns file) 99 other c (count_of 99 other) refl (λ n h. h) f
+    by false f = of_two AreCounted file other c (pair_action_of word) (event_action_of word) (λ does. tt) (λ does. tt) f
+are_counted (first ∷ word ∷ file ∷ other ∷ []) c e = by (explains_gaps first word) e
   where
-    by : (b : Bool) → (if b then option_map (with_explained_columns file) (count_of 99 events) else option_map (with_files file events) (explained_action_of first word)) ≡ Some c
+    by : (b : Bool) → (if b then option_map (with_explained_columns file) (count_of 99 other) else explained_command_on first word file other) ≡ Some c
         → AreCounted c
-    by true f = of_count AreCounted (with_explained_columns file) 99 events c (count_of 99 events) refl (λ n h. h) f
-    by false f = of_events AreCounted file events c (explained_action_of first word) (λ does. tt) f
-are_counted (first ∷ word ∷ file ∷ events ∷ more ∷ words) c e = absurd (let no : ⊥ = cc in no)
+    by true f = of_count AreCounted (with_explained_columns file) 99 other c (count_of 99 other) refl (λ n h. h) f
+    by false f = of_two AreCounted file other c (explained_pair_action_of first word) (explained_action_of first word) (λ does. tt) (λ does. tt) f
+are_counted (first ∷ word ∷ file ∷ other ∷ more ∷ words) c e = absurd (let no : ⊥ = cc in no)

@@ -1,5 +1,5 @@
 -- What a command answers and writes is one thing.
-use Rattle.std.proofs.Common.{◌≡◌, ℕ, List, Some, None, length, sym, ap, ◌∙◌, subst}
+use Rattle.std.proofs.Common.{◌≡◌, ℕ, List, Option, Some, None, length, refl, sym, ap, ◌∙◌, subst}
 use Rattle.std.specs.Prelude.{◌++◌}
 use Rattle.rsml_meaning.specs.RunLaws.{LastLineIsVerdict, LinesHaveOneRun}
 use Rattle.rsml_lexer.specs.Laws.{AtMostOneTokenList, AtMostOneFirstFault, NeverBoth}
@@ -18,7 +18,9 @@ use Rattle.simulator.specs.declared.sim_end.SimEnd.{SimEnd}
 use Rattle.simulator.specs.declared.sim_end.SimEnd.TheVariants as end
 use Rattle.world_columns.specs.Laws.{GapsAreOne}
 use Rattle.judging.proofs.OneText.{one_text}
+use Rattle.answering.specs.Lines as lines
 use Rattle.answering.specs.declared.status.Status.{Status}
+use Rattle.answering.specs.declared.status.Status.TheVariants as status
 use Rattle.checking.proofs.OneCheck.{AreOne, one_check, one_format, one_migrate, check_is_done}
 use Rattle.explaining.specs.Outputs.{ExplainOutput}
 use Rattle.following.specs.Outputs.{EventOutput, FollowOutput, status_of, texts_of}
@@ -27,11 +29,17 @@ use Rattle.following.specs.declared.event_action.EventAction.{EventAction}
 use Rattle.following.specs.declared.event_action.EventAction.TheVariants as event_action
 use Rattle.gapping.specs.Explained.{ExplainGapsOutput}
 use Rattle.gapping.proofs.OneGaps.{one_gaps}
+use Rattle.comparing.specs.Laws.{SameIsOne}
+use Rattle.proving.specs.Laws.{ProveIsOne}
+use Rattle.pairing.specs.Outputs.{PairOutput}
+use Rattle.pairing.specs.declared.pair_action.PairAction.{PairAction}
+use Rattle.pairing.specs.declared.pair_action.PairAction.TheVariants as pair_action
+use Rattle.pairing.proofs.OnePair.{one_pair}
 use Rattle.demonstrating.specs.Summary.{IsSummary}
 use Rattle.demonstrating.proofs.SummaryLemmas.{one_summary}
-use Rattle.rsml.specs.Commands.{Command, act, follow, demo, version, command_of}
-use Rattle.rsml.specs.Laws.{OutputIsOne, AreSame, whole, explained, explained_cover, explained_gaps}
-use Rattle.rsml.specs.Output.{ActionOutput, no_command, acted, demonstrated, versioned}
+use Rattle.rsml.specs.Commands.{Command, act, follow, pair, demo, version, command_of}
+use Rattle.rsml.specs.Laws.{OutputIsOne, AreSame, whole, explained, explained_cover, explained_gaps, explained_prove, explained_same}
+use Rattle.rsml.specs.Output.{ActionOutput, Output, no_command, acted, demonstrated, versioned}
 use Rattle.rsml.specs.Output as output
 use Rattle.rsml.specs.Version.{version_text}
 use Rattle.rsml.specs.declared.command.Action.{Action}
@@ -40,17 +48,23 @@ use Rattle.rsml.specs.declared.command.Action.TheVariants as action
 are_same : (words : List Bytes) (a b : Status) (xs ys : Bytes) → AreOne a xs b ys → (a ≡ b) × AreSame words xs ys
 are_same words a b xs ys one = (one.0, whole one.1)
 
--- what a command comes to
-abbrev OfCommand : (Bytes → Bytes) → Command → Status → Bytes → Type 0
-OfCommand contents (act does file) = ActionOutput does (contents file)
-OfCommand contents (follow does file events) = EventOutput does (contents file) (contents events)
-OfCommand contents (demo n) = λ answer bytes. IsSummary n bytes
-OfCommand contents version = λ answer bytes. bytes ≡ version_text
+-- what words come to
+abbrev OfWords : (Bytes → Bytes) → Option Command → Status → Bytes → Type 0
+OfWords contents None answer bytes = (answer ≡ status.Usage) × (bytes ≡ lines.usage)
+OfWords contents (Some (act does file)) answer bytes = ActionOutput does (contents file) answer bytes
+OfWords contents (Some (follow does file events)) answer bytes = EventOutput does (contents file) (contents events) answer bytes
+OfWords contents (Some (pair does file other)) answer bytes = PairOutput does (contents file) (contents other) answer bytes
+OfWords contents (Some (demo n)) answer bytes = (answer ≡ status.Done) × IsSummary n bytes
+OfWords contents (Some version) answer bytes = (answer ≡ status.Done) × (bytes ≡ version_text)
 
--- the units of a command, or others in their place
-abbrev units_in : ℕ → Command → ℕ
-units_in other (demo n) = n
-units_in other _ = other
+of_words : (words : List Bytes) (contents : Bytes → Bytes) (answer : Status) (bytes : Bytes) → Output words contents answer bytes
+    → OfWords contents (command_of words) answer bytes
+of_words words contents answer bytes (no_command is e h) = subst (λ (c : Option Command). OfWords contents c answer bytes) (sym is) (e, h)
+of_words words contents answer bytes (acted does file is o) = subst (λ (c : Option Command). OfWords contents c answer bytes) (sym is) o
+of_words words contents answer bytes (output.Output.followed does file events is o) = subst (λ (c : Option Command). OfWords contents c answer bytes) (sym is) o
+of_words words contents answer bytes (output.Output.paired does file other is o) = subst (λ (c : Option Command). OfWords contents c answer bytes) (sym is) o
+of_words words contents answer bytes (demonstrated n is e h) = subst (λ (c : Option Command). OfWords contents c answer bytes) (sym is) (e, h)
+of_words words contents answer bytes (versioned is e h) = subst (λ (c : Option Command). OfWords contents c answer bytes) (sym is) (e, h)
 
 same_some : {A : Type 0} (x y : A) → Some x ≡ Some y → x ≡ y
 same_some x y e = ap (λ o. elim o [ Some z ↦ z | None ↦ x ]) e
@@ -112,10 +126,25 @@ module _ (faults : AtMostOneFirstFault) (lists : AtMostOneTokenList) (never : Ne
   one_action one gaps (action.Gaps most) words file text is a b xs ys o p = are_same words a b xs ys (one_gaps gaps faults lists never answers most text a b xs ys o p)
   one_action one gaps (action.ExplainGaps most) words file text is a b xs ys o p = one_explained_gaps gaps most words file text is a b xs ys o p
 
+  -- Commands on two texts.
+
+  one_of_texts : ProveIsOne → SameIsOne → (does : PairAction) (words : List Bytes) (file other text content : Bytes) → command_of words ≡ Some (pair does file other)
+      → (a b : Status) (xs ys : Bytes) → PairOutput does text content a xs → PairOutput does text content b ys → (a ≡ b) × AreSame words xs ys
+  one_of_texts proofs comparisons pair_action.Prove words file other text content is a b xs ys o p =
+      are_same words a b xs ys (one_pair faults lists never answers proofs comparisons pair_action.Prove text content a b xs ys o p)
+  one_of_texts proofs comparisons pair_action.ExplainProve words file other text content is a b xs ys o p =
+      let same = one_pair faults lists never answers proofs comparisons pair_action.ExplainProve text content a b o.report p.report o.reported p.reported in
+      (same.0, explained_prove file other o.report o.notes p.notes is o.split (p.split ∙ ap (λ zs. zs ++ p.notes) (sym same.1)) o.comments p.comments)
+  one_of_texts proofs comparisons pair_action.Same words file other text content is a b xs ys o p =
+      are_same words a b xs ys (one_pair faults lists never answers proofs comparisons pair_action.Same text content a b xs ys o p)
+  one_of_texts proofs comparisons pair_action.ExplainSame words file other text content is a b xs ys o p =
+      let same = one_pair faults lists never answers proofs comparisons pair_action.ExplainSame text content a b o.report p.report o.reported p.reported in
+      (same.0, explained_same file other o.report o.notes p.notes is o.split (p.split ∙ ap (λ zs. zs ++ p.notes) (sym same.1)) o.comments p.comments)
+
   -- Commands.
 
   module _ (one : ReportIsOne) (no_fault : WellFormedHasNoFault) (of_line : FirstFaultIsOfLine) (scopes : RulesGiveScopes)
-      (runs : LinesHaveOneRun) (last : LastLineIsVerdict) (gaps : GapsAreOne) where
+      (runs : LinesHaveOneRun) (last : LastLineIsVerdict) (gaps : GapsAreOne) (proofs : ProveIsOne) (comparisons : SameIsOne) where
     one_follow : (does : EventAction) (text content : Bytes) (a b : Status) (xs ys : Bytes) → FollowOutput does text content a xs
         → FollowOutput does text content b ys → AreOne a xs b ys
     one_follow does text content a b xs ys (following.checked n o) (following.checked m p) = one_check faults lists never answers one text a b xs ys o p
@@ -145,35 +174,17 @@ module _ (faults : AtMostOneFirstFault) (lists : AtMostOneTokenList) (never : Ne
         are_same words a b xs ys (one_follow event_action.Cover text content a b xs ys o p)
     one_event event_action.ExplainCover words file events text content is a b xs ys o p = one_cover words file events text content is a b xs ys o p
 
+    one_of_words : (words : List Bytes) (contents : Bytes → Bytes) (c : Option Command) → command_of words ≡ c → (a b : Status) (xs ys : Bytes)
+        → OfWords contents c a xs → OfWords contents c b ys → (a ≡ b) × AreSame words xs ys
+    one_of_words words contents None is a b xs ys o p = (o.0 ∙ sym p.0, whole (o.1 ∙ sym p.1))
+    one_of_words words contents (Some (act does file)) is a b xs ys o p = one_action one gaps does words file (contents file) is a b xs ys o p
+    one_of_words words contents (Some (follow does file events)) is a b xs ys o p =
+        one_event does words file events (contents file) (contents events) is a b xs ys o p
+    one_of_words words contents (Some (pair does file other)) is a b xs ys o p =
+        one_of_texts proofs comparisons does words file other (contents file) (contents other) is a b xs ys o p
+    one_of_words words contents (Some (demo n)) is a b xs ys o p = (o.0 ∙ sym p.0, whole (one_summary last one scopes runs n xs ys o.1 p.1))
+    one_of_words words contents (Some version) is a b xs ys o p = (o.0 ∙ sym p.0, whole (o.1 ∙ sym p.1))
+
     pub one_output : OutputIsOne
-    one_output words contents a b xs ys (no_command none e h) (no_command _ f k) = (e ∙ sym f, whole (h ∙ sym k))
-    one_output words contents a b xs ys (no_command none e h) (acted does file is o) = absurd (cc (none, is))
-    one_output words contents a b xs ys (no_command none e h) (output.Output.followed does file events is o) = absurd (cc (none, is))
-    one_output words contents a b xs ys (acted does file is o) (no_command none e h) = absurd (cc (none, is))
-    one_output words contents a b xs ys (acted does file is o) (acted other file' at p) =
-        let same = same_some (act other file') (act does file) (sym at ∙ is) in
-        one_action one gaps does words file (contents file) is a b xs ys o (subst (λ (c : Command). OfCommand contents c b ys) same p)
-    one_output words contents a b xs ys (acted does file is o) (output.Output.followed does' file' events at p) = absurd (cc (is, at))
-    one_output words contents a b xs ys (output.Output.followed does file events is o) (no_command none e h) = absurd (cc (none, is))
-    one_output words contents a b xs ys (output.Output.followed how file events is o) (acted does file' at p) = absurd (cc (is, at))
-    one_output words contents a b xs ys (output.Output.followed does file events is o) (output.Output.followed does' file' events' at p) =
-        let same = same_some (follow does' file' events') (follow does file events) (sym at ∙ is) in
-        one_event does words file events (contents file) (contents events) is a b xs ys o (subst (λ (c : Command). OfCommand contents c b ys) same p)
-    one_output words contents a b xs ys (no_command none e h) (demonstrated n is f s) = absurd (cc (none, is))
-    one_output words contents a b xs ys (acted does file is o) (demonstrated n at f s) = absurd (cc (is, at))
-    one_output words contents a b xs ys (output.Output.followed does file events is o) (demonstrated n at f s) = absurd (cc (is, at))
-    one_output words contents a b xs ys (demonstrated n is e s) (no_command none f h) = absurd (cc (none, is))
-    one_output words contents a b xs ys (demonstrated n is e s) (acted does file at o) = absurd (cc (is, at))
-    one_output words contents a b xs ys (demonstrated n is e s) (output.Output.followed does file events at o) = absurd (cc (is, at))
-    one_output words contents a b xs ys (demonstrated n is e s) (demonstrated k at f t) =
-        let same : k ≡ n = ap (units_in n) (same_some (demo k) (demo n) (sym at ∙ is)) in
-        (e ∙ sym f, whole (one_summary last one scopes runs n xs ys s (subst (λ (u : ℕ). IsSummary u ys) same t)))
-    one_output words contents a b xs ys (no_command none e h) (versioned is f k) = absurd (cc (none, is))
-    one_output words contents a b xs ys (acted does file is o) (versioned at f k) = absurd (cc (is, at))
-    one_output words contents a b xs ys (output.Output.followed does file events is o) (versioned at f k) = absurd (cc (is, at))
-    one_output words contents a b xs ys (demonstrated n is e s) (versioned at f k) = absurd (cc (is, at))
-    one_output words contents a b xs ys (versioned is e h) (no_command none f k) = absurd (cc (none, is))
-    one_output words contents a b xs ys (versioned is e h) (acted does file at o) = absurd (cc (is, at))
-    one_output words contents a b xs ys (versioned is e h) (output.Output.followed does file events at o) = absurd (cc (is, at))
-    one_output words contents a b xs ys (versioned is e h) (demonstrated n at f t) = absurd (cc (is, at))
-    one_output words contents a b xs ys (versioned is e h) (versioned at f k) = (e ∙ sym f, whole (h ∙ sym k))
+    one_output words contents a b xs ys o p =
+        one_of_words words contents (command_of words) refl a b xs ys (of_words words contents a xs o) (of_words words contents b ys p)

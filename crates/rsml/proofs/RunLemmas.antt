@@ -25,14 +25,24 @@ use Rattle.following.proofs.FollowLemmas.{EventsUnread, followed, leaves_events,
 use Rattle.gapping.proofs.GapLemmas as gapping
 use Rattle.gapping.proofs.ExplainedLemmas.{done_explained, refused_explained}
 use Rattle.judging.specs.Texts.{IsTextOf}
+use Rattle.comparing.specs.Laws.{ReadsAsAlike, SameIsAlike}
+use Rattle.proving.specs.Laws.{DoneIsProved}
+use Rattle.pairing.specs.Kept.{IsKeptFile, IsKeptText}
+use Rattle.pairing.specs.Outputs.{PairOutput}
+use Rattle.pairing.specs.Steps.{HasPaired}
+use Rattle.pairing.specs.declared.pair_action.PairAction.{PairAction}
+use Rattle.pairing.specs.declared.pair_action.PairAction.TheVariants as pair_action
+use Rattle.pairing.proofs.DoneLemmas.{proved_output, explained_proof_output, same_output, explained_same_output}
+use Rattle.pairing.proofs.PairLemmas.{leaves_second, paired, paired_fits}
+use Rattle.pairing.proofs.StatusLemmas.{of_pair}
 use Rattle.demonstrating.specs.Steps.{HasDemonstrated}
 use Rattle.demonstrating.specs.Summary.{IsSummary}
 use Rattle.demonstrating.proofs.DemoLemmas.{demonstrated, demonstrated_fits}
-use Rattle.rsml.specs.Commands.{Command, act, follow, demo, version, command_of, specification_file, Names}
+use Rattle.rsml.specs.Commands.{Command, act, follow, pair, demo, version, command_of, specification_file, Names}
 use Rattle.rsml.specs.Commands as commands
 use Rattle.rsml.specs.Output.{ActionOutput, Output}
 use Rattle.rsml.specs.Output as output
-use Rattle.rsml.specs.Promises.{Meeting, Runs, Tells, SomeReadRefused, ReadFaultOutput, Certifies, Refuses, TellsOnlyRun, Tabulates, AsksGaps, ExplainsGaps, AsksExplainedGaps, Demonstrates, Checks, IsOfOnlyRun, CountsRise, answers_of}
+use Rattle.rsml.specs.Promises.{Meeting, Runs, Tells, SomeReadRefused, ReadFaultOutput, Certifies, Refuses, TellsOnlyRun, Tabulates, AsksGaps, ExplainsGaps, AsksExplainedGaps, Proves, ExplainsProof, FindsAlike, ExplainsAlike, AreAlike, Pairs, LeavesSecond, Demonstrates, Checks, IsOfOnlyRun, CountsRise, answers_of, judged_answers}
 use Rattle.rsml.specs.Promises as promises
 use Rattle.rsml.specs.Steps.{HasObeyed}
 use Rattle.rsml.specs.Version.{version_text}
@@ -59,6 +69,24 @@ pub record LeftOver (m : Meeting) (names : Bytes → Type 0) : Type 0 where
   pub others : (file : Bytes) → (names file → ⊥) → (m.file file).reach_after ≡ (m.file file).reach
   pub counts : CountsRise m
 
+-- what it promises of two texts
+pub record OfTexts (m : Meeting) (answer : Status) : Type 0 where
+  pub proved : Proves m answer
+  pub proof_explained : ExplainsProof m answer
+  pub alike : FindsAlike m answer
+  pub same_explained : ExplainsAlike m answer
+  pub unread_second : LeavesSecond m
+
+-- which is nothing, where the command is on no two texts
+no_texts : (m : Meeting) (answer : Status) → ((does : PairAction) (file other : Bytes) → command_of m.words ≡ Some (pair does file other) → ⊥) → OfTexts m answer
+no_texts m answer none = record {
+  proved = λ e text other c. absurd (none pair_action.Prove c.file c.second c.command);
+  proof_explained = λ e text other c. absurd (none pair_action.ExplainProve c.file c.second c.command);
+  alike = λ e text other c. absurd (none pair_action.Same c.file c.second c.command);
+  same_explained = λ e text other c. absurd (none pair_action.ExplainSame c.file c.second c.command);
+  unread_second = λ does file other c. absurd (none does file other c);
+}
+
 module _ (m : Meeting) (answer : Status) (c : Command) (is : command_of m.words ≡ Some c) where
   -- of the command that the words are
   given : (P : Command → Type 0) → P c → (d : Command) → command_of m.words ≡ Some d → P d
@@ -69,11 +97,12 @@ module _ (m : Meeting) (answer : Status) (c : Command) (is : command_of m.words 
 
   -- its promises, from what it answered, and what each of them is of its kind
   all_runs : AnswersOf m answer → LeftOver m (Names c) → Contains (answers_of c) answer → answer ≢ status.Usage
-      → Certifies m answer → Refuses m answer → ((does : EventAction) → TellsOnlyRun does m answer) → Tabulates m answer → ExplainsGaps m answer → Demonstrates m answer
+      → Certifies m answer → Refuses m answer → ((does : EventAction) → TellsOnlyRun does m answer) → Tabulates m answer → ExplainsGaps m answer → OfTexts m answer
+      → Demonstrates m answer
       → OfFollow (λ file events. file ≢ events → ((m.file events).reach_after ≡ (m.file events).reach) ⊎ IsFollowed (m.file file) (m.file events) answer) c
       → OfFollow (λ file events. answer ≡ status.EventFault → IsFollowed (m.file file) (m.file events) answer) c
       → Runs m answer
-  all_runs h left fits no_usage certifies refuses tells tabulates explains demonstrates unread fault = record {
+  all_runs h left fits no_usage certifies refuses tells tabulates explains texts demonstrates unread fault = record {
     answered = h.answered;
     usage = record { usage = λ none. absurd (cc (none, is)); only = λ e. absurd (no_usage e) };
     no_memory = h.no_memory;
@@ -88,11 +117,16 @@ module _ (m : Meeting) (answer : Status) (c : Command) (is : command_of m.words 
     cover_explained = tells event_action.ExplainCover;
     gapped = tabulates;
     gaps_explained = explains;
+    proved = texts.proved;
+    proof_explained = texts.proof_explained;
+    alike = texts.alike;
+    same_explained = texts.same_explained;
     demonstrated = demonstrates;
     others = λ file n. left.others file (λ names. n c is names);
     unread_events = λ does file events e.
         given (OfFollow (λ file events. file ≢ events → ((m.file events).reach_after ≡ (m.file events).reach) ⊎ IsFollowed (m.file file) (m.file events) answer))
         unread (follow does file events) e;
+    unread_second = texts.unread_second;
     fits = record {
       command = given (λ d. Contains (answers_of d) answer) fits;
       event_fault = λ f does file events e.
@@ -106,9 +140,7 @@ module _ (m : Meeting) (answer : Status) (c : Command) (is : command_of m.words 
 -- the action of a command, and another's in its place
 abbrev action_in : Action → Command → Action
 action_in other (act does file) = does
-action_in other (follow does file events) = other
-action_in other (demo n) = other
-action_in other version = other
+action_in other _ = other
 
 module _ (m : Meeting) (answer : Status) (does : Action) (file : Bytes) (is : command_of m.words ≡ Some (act does file))
     (h : HasObeyed (act does file) m.file m.sink answer) (left : LeftOver m (Names (act does file))) where
@@ -189,7 +221,8 @@ module _ (m : Meeting) (answer : Status) (does : Action) (file : Bytes) (is : co
   runs_action : Runs m answer
   runs_action =
       all_runs m answer (act does file) is acted_answers left acted_fits acted_usage certifies refuses
-      (λ action e text content c. absurd (cc (is, c.command))) tabulates explains_gaps (λ e n c. absurd (cc (is, c))) tt tt
+      (λ action e text content c. absurd (cc (is, c.command))) tabulates explains_gaps (no_texts m answer (λ one read other c. absurd (cc (is, c))))
+      (λ e n c. absurd (cc (is, c))) tt tt
 
 -- A command that follows an event file.
 
@@ -233,10 +266,8 @@ done_output event_action.ExplainCover text content answer bytes e h =
     (r.0, r.1, r.2 bytes (record { report = h.report; notes = h.notes; split = h.split; reported = refl; comments = h.comments }))
 
 abbrev events_of : Bytes → Command → Bytes
-events_of other (act does file) = other
 events_of other (follow does file events) = events
-events_of other (demo n) = other
-events_of other version = other
+events_of other _ = other
 
 -- the action of a command on an event file, and another's in its place
 abbrev event_action_in : EventAction → Command → EventAction
@@ -300,8 +331,117 @@ module _ (m : Meeting) (answer : Status) (does : EventAction) (file events : Byt
       let no_usage = never_usage_of does file events m.file m.sink answer h in
       all_runs m answer (follow does file events) is followed_answers left (all_but_usage answer refl no_usage) no_usage
       (λ e text c. absurd (cc (is, c.command))) (λ e text c. absurd (cc (is, c.command))) tells (λ e most text c. absurd (cc (is, c.command)))
-      (λ e most text c. absurd (cc (is, c.command)))
+      (λ e most text c. absurd (cc (is, c.command))) (no_texts m answer (λ one read other c. absurd (cc (is, c))))
       (λ e n c. absurd (cc (is, c))) (leaves_events does file events m.file m.sink answer h) (event_fault does file events m.file m.sink answer h)
+
+-- A command on two texts.
+
+-- the second file of a command, and another in its place
+abbrev second_of : Bytes → Command → Bytes
+second_of otherwise (pair does file other) = other
+second_of otherwise _ = otherwise
+
+-- the action of a command on two texts, and another's in its place
+abbrev pair_action_in : PairAction → Command → PairAction
+pair_action_in otherwise (pair does file other) = does
+pair_action_in otherwise _ = otherwise
+
+module _ (m : Meeting) (answer : Status) (does : PairAction) (file other : Bytes) (is : command_of m.words ≡ Some (pair does file other))
+    (h : HasPaired does file other m.file m.sink answer) (left : LeftOver m (Names (pair does file other))) where
+  names_first : Names (pair does file other) file
+  names_first = commands.specification (pair does file other) file refl
+
+  first_unread : (contents : Bytes → Bytes) → ReadRefused (m.file file) → ReadFaultOutput m contents lines.read
+  first_unread contents rose = promises.ReadFaultOutput.specification (pair does file other, file, is, refl, rose) refl
+
+  second_unread : (contents : Bytes → Bytes) (s : Spec) → IsKeptText (contents file) s → ReadRefused (m.file other) → ReadFaultOutput m contents lines.read
+  second_unread contents s kept rose =
+      promises.ReadFaultOutput.second (record { does = does; file = file; other = other; command = is; spec = s; kept = kept; refused = rose }) refl
+
+  paired_answers : AnswersOf m answer
+  paired_answers =
+      paired (Bytes → Bytes) (Tells m) (Output m.words) (SomeReadRefused m) (ReadFaultOutput m) does m.sink answer file other m.file
+      (λ contents. contents file) (λ contents. contents other) (λ contents told. told (pair does file other) file is names_first)
+      (λ contents told. told (pair does file other) other is (commands.other does file other))
+      (λ contents wanted bytes o. output.Output.paired does file other is o) (named m answer (pair does file other) is file names_first)
+      (named m answer (pair does file other) is other (commands.other does file other)) first_unread second_unread h
+
+  -- of two texts that were told
+  output_of_texts : (text content : Bytes) → (m.file file).told ≡ Some text → (m.file other).told ≡ Some content → answer ≢ status.NoMemory
+      → answer ≢ status.ReadFault → answer ≢ status.WriteFault → (bytes : Bytes) × PairOutput does text content answer bytes × Writes m.sink bytes
+  output_of_texts text content told told_second no_memory no_read no_write =
+      let all =
+      paired Bytes (λ c. (m.file other).told ≡ Some c) (λ c. PairOutput does text c) (ReadRefused (m.file file) ⊎ ReadRefused (m.file other)) (λ c bytes. ⊤)
+      does m.sink answer file other m.file (λ c. text) (λ c. c) (λ c _. told) (λ c t. t) (λ c wanted bytes o. o) (λ r. inl r) (λ r. inr r) (λ c r. tt)
+      (λ c s kept r. tt) h in
+      all.answered no_memory no_read no_write content told_second
+
+  -- of the action that the words ask for
+  output_done : (one : PairAction) (text content : Bytes) → Pairs m one text content → answer ≡ status.Done
+      → (bytes : Bytes) × PairOutput one text content answer bytes × Writes m.sink bytes
+  output_done one text content c e =
+      let same = same_some (pair does file other) (pair one c.file c.second) (sym is ∙ c.command) in
+      let of_file = subst (λ (f : Bytes). (m.file f).told ≡ Some text) (sym (same_some file c.file (ap specification_file same))) c.told in
+      let of_other = subst (λ (f : Bytes). (m.file f).told ≡ Some content) (sym (ap (second_of other) same)) c.told_second in
+      let o = output_of_texts text content of_file of_other (λ f. absurd (cc (e, f))) (λ f. absurd (cc (e, f))) (λ f. absurd (cc (e, f))) in
+      (o.0, subst (λ (a : PairAction). PairOutput a text content answer o.0) (ap (pair_action_in does) same) o.1, o.2)
+
+  pairs_fit : (Fits : Status → Type 0) → Fits status.Done → Fits status.Refused → Fits status.SpecFault → Fits status.TooLong → Fits status.ReadFault
+      → Fits status.WriteFault → Fits status.NoMemory → Fits answer
+  pairs_fit Fits of_done of_refused of_fault of_long of_read of_write of_memory =
+      paired_fits does file other m.file m.sink answer Fits (of_pair Fits of_done of_refused of_fault of_long) of_memory of_read of_write of_long h
+
+  module _ (proofs : DoneIsProved) (comparisons : SameIsAlike) where
+    proves : Proves m answer
+    proves e text content c =
+        let o = output_done pair_action.Prove text content c e in
+        let r = proved_output proofs text content answer o.0 e o.1 in
+        (r.0, r.1, o.0, r.2, r.3, r.4, r.5, o.2)
+
+    explains_proof : ExplainsProof m answer
+    explains_proof e text content c =
+        let o = output_done pair_action.ExplainProve text content c e in
+        let r = explained_proof_output proofs text content answer o.0 e o.1 in
+        (r.0, r.1, o.0, r.2, r.3, r.4, r.5, o.2)
+
+    are_alike : (s : Spec) (content : Bytes) (r : ReadsAsAlike s content) → AreAlike s r.second
+    are_alike s content r = record { one = r.one; two = r.two; traced = λ events. r.traced program_limits events }
+
+    finds_alike : FindsAlike m answer
+    finds_alike e text content c =
+        let o = output_done pair_action.Same text content c e in
+        let r = same_output comparisons text content answer o.0 e o.1 in
+        (r.0, r.2.second, o.0, r.1, r.2.is_text, are_alike r.0 content r.2, r.3, o.2)
+
+    explains_alike : ExplainsAlike m answer
+    explains_alike e text content c =
+        let o = output_done pair_action.ExplainSame text content c e in
+        let r = explained_same_output comparisons text content answer o.0 e o.1 in
+        (r.0, r.2.second, o.0, r.1, r.2.is_text, are_alike r.0 content r.2, r.3, o.2)
+
+    -- the files of a command are these
+    same_files : (one : PairAction) (f second : Bytes) → command_of m.words ≡ Some (pair one f second) → (file ≡ f) × (other ≡ second)
+    same_files one f second c =
+        let same = same_some (pair does file other) (pair one f second) (sym is ∙ c) in
+        (same_some file f (ap specification_file same), ap (second_of other) same)
+
+    leaves : LeavesSecond m
+    leaves one f second c apart =
+        let same = same_files one f second c in
+        let left = leaves_second does file other m.file m.sink answer h (λ e. apart (sym same.0 ∙ e ∙ same.1)) in
+        subst (λ (x : Bytes). ((m.file second).reach_after ≡ (m.file second).reach) ⊎ IsKeptFile (m.file x)) same.0
+        (subst (λ (x : Bytes). ((m.file x).reach_after ≡ (m.file x).reach) ⊎ IsKeptFile (m.file file)) same.1 left)
+
+    runs_pair : Runs m answer
+    runs_pair =
+        all_runs m answer (pair does file other) is paired_answers left
+        (pairs_fit (λ a. Contains judged_answers a) (0, lit< tt, refl) (1, lit< tt, refl) (2, lit< tt, refl) (3, lit< tt, refl) (4, lit< tt, refl) (5, lit< tt, refl)
+        (6, lit< tt, refl))
+        (pairs_fit (λ a. a ≢ status.Usage) (λ f. cc f) (λ f. cc f) (λ f. cc f) (λ f. cc f) (λ f. cc f) (λ f. cc f) (λ f. cc f))
+        (λ e text c. absurd (cc (is, c.command))) (λ e text c. absurd (cc (is, c.command))) (λ action e text content c. absurd (cc (is, c.command)))
+        (λ e most text c. absurd (cc (is, c.command))) (λ e most text c. absurd (cc (is, c.command)))
+        (record { proved = proves; proof_explained = explains_proof; alike = finds_alike; same_explained = explains_alike; unread_second = leaves })
+        (λ e n c. absurd (cc (is, c))) tt tt
 
 -- `demo`.
 
@@ -335,7 +475,8 @@ module _ (m : Meeting) (answer : Status) (n : ℕ) (is : command_of m.words ≡ 
       (demonstrated_fits n m.sink answer (λ a. Contains (answers_of (demo n)) a) (0, lit< tt, refl) (2, lit< tt, refl) (1, lit< tt, refl) h)
       (demonstrated_fits n m.sink answer (λ a. a ≢ status.Usage) (λ f. cc f) (λ f. cc f) (λ f. cc f) h)
       (λ e text c. absurd (cc (is, c.command))) (λ e text c. absurd (cc (is, c.command))) (λ action e text content c. absurd (cc (is, c.command)))
-      (λ e most text c. absurd (cc (is, c.command))) (λ e most text c. absurd (cc (is, c.command))) demonstrates tt tt
+      (λ e most text c. absurd (cc (is, c.command))) (λ e most text c. absurd (cc (is, c.command)))
+      (no_texts m answer (λ one read other c. absurd (cc (is, c)))) demonstrates tt tt
 
 -- `version`.
 
@@ -349,15 +490,17 @@ module _ (m : Meeting) (answer : Status) (is : command_of m.words ≡ Some versi
       (written_fits (λ a. Contains (answers_of version) a) m.sink version_text status.Done answer w (0, lit< tt, refl) (1, lit< tt, refl))
       (written_fits (λ a. a ≢ status.Usage) m.sink version_text status.Done answer w (λ f. cc f) (λ f. cc f))
       (λ e text c. absurd (cc (is, c.command))) (λ e text c. absurd (cc (is, c.command))) (λ action e text content c. absurd (cc (is, c.command)))
-      (λ e most text c. absurd (cc (is, c.command))) (λ e most text c. absurd (cc (is, c.command))) (λ e n c. absurd (cc (is, c))) tt tt
+      (λ e most text c. absurd (cc (is, c.command))) (λ e most text c. absurd (cc (is, c.command)))
+      (no_texts m answer (λ one read other c. absurd (cc (is, c)))) (λ e n c. absurd (cc (is, c))) tt tt
 
 -- what `run` promises, from what the command that the words are leaves
-pub runs_command : (m : Meeting) (answer : Status) (c : Command) → command_of m.words ≡ Some c → HasObeyed c m.file m.sink answer
+pub runs_command : DoneIsProved → SameIsAlike → (m : Meeting) (answer : Status) (c : Command) → command_of m.words ≡ Some c → HasObeyed c m.file m.sink answer
     → LeftOver m (Names c) → Runs m answer
-runs_command m answer (act does file) is h left = runs_action m answer does file is h left
-runs_command m answer (follow does file events) is h left = runs_following m answer does file events is h left
-runs_command m answer (demo n) is h left = runs_demo m answer n is h left
-runs_command m answer version is h left = runs_version m answer is h left
+runs_command proofs comparisons m answer (act does file) is h left = runs_action m answer does file is h left
+runs_command proofs comparisons m answer (follow does file events) is h left = runs_following m answer does file events is h left
+runs_command proofs comparisons m answer (pair does file other) is h left = runs_pair m answer does file other is h left proofs comparisons
+runs_command proofs comparisons m answer (demo n) is h left = runs_demo m answer n is h left
+runs_command proofs comparisons m answer version is h left = runs_version m answer is h left
 
 -- Words that are no command.
 
@@ -371,6 +514,9 @@ module _ (m : Meeting) (answer : Status) (none : command_of m.words ≡ None) (w
   -- it is Usage, or tells of a refused write
   either : (answer ≡ status.Usage) ⊎ (answer ≡ status.WriteFault)
   either = written_fits (λ a. (a ≡ status.Usage) ⊎ (a ≡ status.WriteFault)) m.sink lines.usage status.Usage answer w (inl refl) (inr refl)
+
+  no_two : OfTexts m answer
+  no_two = no_texts m answer (λ does file other c. absurd (cc (none, c)))
 
   pub runs_usage : Runs m answer
   runs_usage = record {
@@ -388,9 +534,14 @@ module _ (m : Meeting) (answer : Status) (none : command_of m.words ≡ None) (w
     cover_explained = λ e text content c. absurd (cc (none, c.command));
     gapped = λ e most text c. absurd (cc (none, c.command));
     gaps_explained = λ e most text c. absurd (cc (none, c.command));
+    proved = no_two.proved;
+    proof_explained = no_two.proof_explained;
+    alike = no_two.alike;
+    same_explained = no_two.same_explained;
     demonstrated = λ e n c. absurd (cc (none, c));
     others = λ file _. left.others file (λ f. f);
     unread_events = λ does file events c. absurd (cc (none, c));
+    unread_second = no_two.unread_second;
     fits = record { command = λ c e. absurd (cc (none, e)); event_fault = λ _ does file events c. absurd (cc (none, c)) };
     counts = left.counts;
   }

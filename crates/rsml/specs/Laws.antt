@@ -4,11 +4,13 @@ use Rattle.source_notes.specs.Comments.{AreComments}
 use Rattle.rsml_meaning.specs.EventLines.{Bytes}
 use Rattle.answering.specs.declared.status.Status.{Status}
 use Rattle.following.specs.declared.event_action.EventAction.TheVariants as event_action
-use Rattle.rsml.specs.Commands.{act, follow, command_of}
+use Rattle.pairing.specs.declared.pair_action.PairAction.TheVariants as pair_action
+use Rattle.rsml.specs.Commands.{act, follow, pair, command_of}
 use Rattle.rsml.specs.Output.{Output}
 use Rattle.rsml.specs.declared.command.Action.TheVariants as action
 
--- The texts are the same; or the words ask to explain a specification, what of it an event file covers, or columns of it, and the texts are the same before the comment lines at their ends.
+-- The texts are the same; or the words ask to explain a specification, what of it an event file covers, columns of it, what is proved of it, or
+-- whether another behaves alike, and the texts are the same before the comment lines at their ends.
 pub data AreSame (words : List Bytes) (bytes others : Bytes) : Type 0 where
   whole : bytes ≡ others → AreSame words bytes others
   explained : (file report notes more : Bytes) → command_of words ≡ Some (act action.Explain file) → bytes ≡ report ++ notes
@@ -17,8 +19,13 @@ pub data AreSame (words : List Bytes) (bytes others : Bytes) : Type 0 where
       → bytes ≡ report ++ notes → others ≡ report ++ more → AreComments notes → AreComments more → AreSame words bytes others
   explained_gaps : (most : ℕ) (file report notes more : Bytes) → command_of words ≡ Some (act (action.ExplainGaps most) file)
       → bytes ≡ report ++ notes → others ≡ report ++ more → AreComments notes → AreComments more → AreSame words bytes others
+  explained_prove : (file other report notes more : Bytes) → command_of words ≡ Some (pair pair_action.ExplainProve file other)
+      → bytes ≡ report ++ notes → others ≡ report ++ more → AreComments notes → AreComments more → AreSame words bytes others
+  explained_same : (file other report notes more : Bytes) → command_of words ≡ Some (pair pair_action.ExplainSame file other)
+      → bytes ≡ report ++ notes → others ≡ report ++ more → AreComments notes → AreComments more → AreSame words bytes others
 
--- words and contents have at most one output: one status, and one text, of `explain`, `explain cover` and `explain gaps` but for the comment lines at its end
+-- words and contents have at most one output: one status, and one text, of `explain`, `explain cover`, `explain gaps`, `explain prove` and
+-- `explain same` but for the comment lines at its end
 abbrev pub OutputIsOne : Type 0
 OutputIsOne = (words : List Bytes) (contents : Bytes → Bytes) (answer other : Status) (bytes others : Bytes)
     → Output words contents answer bytes → Output words contents other others → (answer ≡ other) × AreSame words bytes others

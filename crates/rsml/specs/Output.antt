@@ -13,8 +13,10 @@ use Rattle.following.specs.Outputs.{EventOutput, IsCertifiedText, texts_of}
 use Rattle.following.specs.declared.event_action.EventAction.{EventAction}
 use Rattle.gapping.specs.Outputs.{GapsOutput}
 use Rattle.gapping.specs.Explained.{ExplainGapsOutput}
+use Rattle.pairing.specs.Outputs.{PairOutput}
+use Rattle.pairing.specs.declared.pair_action.PairAction.{PairAction}
 use Rattle.demonstrating.specs.Summary.{IsSummary}
-use Rattle.rsml.specs.Commands.{act, follow, demo, version, command_of}
+use Rattle.rsml.specs.Commands.{act, follow, pair, demo, version, command_of}
 use Rattle.rsml.specs.Version.{version_text}
 use Rattle.rsml.specs.declared.command.Action.{Action}
 use Rattle.rsml.specs.declared.command.Action.TheVariants as action
@@ -35,6 +37,8 @@ pub data Output (words : List Bytes) (contents : Bytes → Bytes) (answer : Stat
       → ActionOutput action (contents file) answer bytes → Output words contents answer bytes
   followed : (does : EventAction) (file events : Bytes) → command_of words ≡ Some (follow does file events)
       → EventOutput does (contents file) (contents events) answer bytes → Output words contents answer bytes
+  paired : (does : PairAction) (file other : Bytes) → command_of words ≡ Some (pair does file other)
+      → PairOutput does (contents file) (contents other) answer bytes → Output words contents answer bytes
   demonstrated : (n : ℕ) → command_of words ≡ Some (demo n) → answer ≡ status.Done → IsSummary n bytes → Output words contents answer bytes
   versioned : command_of words ≡ Some version → answer ≡ status.Done → bytes ≡ version_text → Output words contents answer bytes
 

@@ -1,9 +1,12 @@
 -- What `run` promises, whatever the files and the sink do.
 use Rattle.std.specs.Prelude.{◌≡◌, ◌≢◌, ℕ, ◌≤◌, ◌⊎◌, List, [], ◌∷◌, Some, None, Contains}
 use Rattle.rsml_syntax.specs.declared.syntax.Spec.{Spec}
+use Rattle.rsml_meaning.specs.Certified.{Certified}
 use Rattle.rsml_meaning.specs.EventFiles.{program_limits, lines_of, IsWellFormed}
 use Rattle.rsml_meaning.specs.EventLines.{Bytes}
 use Rattle.rsml_meaning.specs.Runs.{Reaction, IsRun}
+use Rattle.claim_syntax.specs.declared.claim.Claim.{Claim}
+use Rattle.equal_frames.specs.Alike.{AreTracedAlike}
 use Rattle.judging.specs.Headline.{IsCertificate, IsRefusal}
 use Rattle.judging.specs.Texts.{IsTextOf}
 use Rattle.answering.specs.Lines as lines
@@ -16,8 +19,16 @@ use Rattle.following.specs.Outputs.{IsCertifiedText, Shows, texts_of}
 use Rattle.following.specs.declared.event_action.EventAction.{EventAction}
 use Rattle.following.specs.declared.event_action.EventAction.TheVariants as event_action
 use Rattle.gapping.specs.Outputs.{TellsGaps}
+use Rattle.comparing.specs.Outputs.{no_difference}
+use Rattle.proving.specs.ClaimTexts.{AreKept}
+use Rattle.proving.specs.Outputs.{IsProved}
+use Rattle.proving.specs.ProveText.{proved_text}
+use Rattle.pairing.specs.Kept.{IsKeptFile, IsKeptText}
+use Rattle.pairing.specs.Outputs as paired
+use Rattle.pairing.specs.declared.pair_action.PairAction.{PairAction}
+use Rattle.pairing.specs.declared.pair_action.PairAction.TheVariants as pair_action
 use Rattle.demonstrating.specs.Summary.{IsSummary}
-use Rattle.rsml.specs.Commands.{Command, act, follow, demo, version, command_of, specification_file, Names}
+use Rattle.rsml.specs.Commands.{Command, act, follow, pair, demo, version, command_of, specification_file, Names}
 use Rattle.rsml.specs.Output.{Output, ReadOutput}
 use Rattle.rsml.specs.declared.command.Action.TheVariants as action
 
@@ -48,6 +59,16 @@ pub record EventReadRefused (m : Meeting) (events : Bytes) (k : ℕ) : Type 0 wh
   pub refused : ReadRefused (m.file events)
   pub reach : file ≢ events → (m.file events).reach ≡ Some 0 → (m.file events).reach_after ≡ Some k
 
+-- A read of the second of two files was refused, where the text of the first is kept.
+pub record SecondReadRefused (m : Meeting) (contents : Bytes → Bytes) : Type 0 where
+  pub does : PairAction
+  pub file : Bytes
+  pub other : Bytes
+  pub command : command_of m.words ≡ Some (pair does file other)
+  pub spec : Spec
+  pub kept : IsKeptText (contents file) spec
+  pub refused : ReadRefused (m.file other)
+
 -- where the words are no command, the usage line is written, or a write refused; and it is written only there
 pub record IsUsage (m : Meeting) (answer : Status) : Type 0 where
   pub usage : command_of m.words ≡ None → (answer ≡ status.Usage) ⊎ (answer ≡ status.WriteFault)
@@ -59,11 +80,12 @@ IsAnswered m answer = answer ≢ status.NoMemory → answer ≢ status.ReadFault
     → (contents : Bytes → Bytes) → Tells m contents → (bytes : Bytes) × Output m.words contents answer bytes × Writes m.sink bytes
 
 -- What was to be written where a read was refused: the line on it, which of `simulate` stands behind the trace of the lines of the event file
--- that had been read.
+-- that had been read. The second of two files is read only where the text of the first is kept.
 pub data ReadFaultOutput (m : Meeting) (contents : Bytes → Bytes) (bytes : Bytes) : Type 0 where
   specification : SpecificationReadRefused m → bytes ≡ lines.read → ReadFaultOutput m contents bytes
   events : (events : Bytes) (k : ℕ) → EventReadRefused m events k → ReadOutput m.words contents events k bytes
       → ReadFaultOutput m contents bytes
+  second : SecondReadRefused m contents → bytes ≡ lines.read → ReadFaultOutput m contents bytes
 
 -- a read fault is told only where a read of a named file was refused, and then what had been read is written
 abbrev pub TellsReadFault : Meeting → Status → Type 0
@@ -154,6 +176,49 @@ abbrev pub ExplainsGaps : Meeting → Status → Type 0
 ExplainsGaps m answer = ((answer ≡ status.Done) ⊎ (answer ≡ status.Refused)) → (most : ℕ) (text : Bytes) → AsksExplainedGaps m most text
     → (s : Spec) × (bytes : Bytes) × IsTextOf text s × WithNotes (TellsGaps s most answer) bytes × Writes m.sink bytes
 
+-- The command acts so on two texts, and its files told these.
+pub record Pairs (m : Meeting) (does : PairAction) (text other : Bytes) : Type 0 where
+  pub file : Bytes
+  pub second : Bytes
+  pub command : command_of m.words ≡ Some (pair does file second)
+  pub told : (m.file file).told ≡ Some text
+  pub told_second : (m.file second).told ≡ Some other
+
+-- Where a command on a specification and claims ends with Done, its texts read as these; the specification is certified, the claims are
+-- inductive, and all are true throughout every run, so in each that there is of a well-formed event file; and that they are proved was written.
+abbrev pub TellsProof : PairAction → Meeting → Status → Type 0
+TellsProof does m answer = answer ≡ status.Done → (text other : Bytes) → Pairs m does text other
+    → (s : Spec) × (cs : List Claim) × (bytes : Bytes) × IsTextOf text s × AreKept s other cs × IsProved s cs
+    × paired.Shows does (λ report. report ≡ proved_text s cs) bytes × Writes m.sink bytes
+
+-- so `prove`
+abbrev pub Proves : Meeting → Status → Type 0
+Proves = TellsProof pair_action.Prove
+
+-- and `explain prove` the same, with comment lines behind it
+abbrev pub ExplainsProof : Meeting → Status → Type 0
+ExplainsProof = TellsProof pair_action.ExplainProve
+
+-- Two specifications are certified, and every event file has the same first fault by both, and the same trace.
+pub record AreAlike (s t : Spec) : Type 0 where
+  pub one : Certified s
+  pub two : Certified t
+  pub traced : (content : Bytes) → AreTracedAlike s t program_limits content
+
+-- Where a command that compares two specifications ends with Done, its texts read as two that are alike, and that was written.
+abbrev pub TellsAlike : PairAction → Meeting → Status → Type 0
+TellsAlike does m answer = answer ≡ status.Done → (text other : Bytes) → Pairs m does text other
+    → (s : Spec) × (t : Spec) × (bytes : Bytes) × IsTextOf text s × IsTextOf other t × AreAlike s t
+    × paired.Shows does (λ report. report ≡ no_difference) bytes × Writes m.sink bytes
+
+-- so `same`
+abbrev pub FindsAlike : Meeting → Status → Type 0
+FindsAlike = TellsAlike pair_action.Same
+
+-- and `explain same` the same, with comment lines behind it
+abbrev pub ExplainsAlike : Meeting → Status → Type 0
+ExplainsAlike = TellsAlike pair_action.ExplainSame
+
 -- Where `demo` ends with Done, the summary of its units was written.
 abbrev pub Demonstrates : Meeting → Status → Type 0
 Demonstrates m answer = answer ≡ status.Done → (n : ℕ) → command_of m.words ≡ Some (demo n) → (bytes : Bytes) × IsSummary n bytes × Writes m.sink bytes
@@ -167,7 +232,12 @@ abbrev pub LeavesEvents : Meeting → Status → Type 0
 LeavesEvents m answer = (does : EventAction) (file events : Bytes) → command_of m.words ≡ Some (follow does file events) → file ≢ events
     → ((m.file events).reach_after ≡ (m.file events).reach) ⊎ IsFollowed (m.file file) (m.file events) answer
 
--- the statuses with which `check`, `explain`, `gaps` and `explain gaps` can end
+-- Of the second of two files, where it is another than the first, nothing is read but where the text of the first is kept.
+abbrev pub LeavesSecond : Meeting → Type 0
+LeavesSecond m = (does : PairAction) (file other : Bytes) → command_of m.words ≡ Some (pair does file other) → file ≢ other
+    → ((m.file other).reach_after ≡ (m.file other).reach) ⊎ IsKeptFile (m.file file)
+
+-- the statuses with which `check`, `explain`, `gaps`, `explain gaps`, `prove`, `explain prove`, `same` and `explain same` can end
 abbrev pub judged_answers : List Status
 judged_answers = status.Done ∷ status.Refused ∷ status.SpecFault ∷ status.TooLong ∷ status.ReadFault ∷ status.WriteFault ∷ status.NoMemory ∷ []
 
@@ -184,6 +254,7 @@ answers_of (act action.Migrate _) = layout_answers
 answers_of (act (action.Gaps _) _) = judged_answers
 answers_of (act (action.ExplainGaps _) _) = judged_answers
 answers_of (follow _ _ _) = status.EventFault ∷ judged_answers
+answers_of (pair _ _ _) = judged_answers
 answers_of (demo _) = status.Done ∷ status.WriteFault ∷ status.NoMemory ∷ []
 answers_of version = status.Done ∷ status.WriteFault ∷ []
 
@@ -200,7 +271,7 @@ pub record CountsRise (m : Meeting) : Type 0 where
   pub writes : m.sink.refusals ≤ m.sink.refusals_after
 
 -- All that `run` promises; the headline is in the fields `certified`, `refused`, `traced`, `covered`, `cover_explained`, `gapped`,
--- `gaps_explained` and `demonstrated`.
+-- `gaps_explained`, `proved`, `proof_explained`, `alike`, `same_explained` and `demonstrated`.
 pub record Runs (m : Meeting) (answer : Status) : Type 0 where
   pub answered : IsAnswered m answer
   pub usage : IsUsage m answer
@@ -216,8 +287,13 @@ pub record Runs (m : Meeting) (answer : Status) : Type 0 where
   pub cover_explained : ExplainsCover m answer
   pub gapped : Tabulates m answer
   pub gaps_explained : ExplainsGaps m answer
+  pub proved : Proves m answer
+  pub proof_explained : ExplainsProof m answer
+  pub alike : FindsAlike m answer
+  pub same_explained : ExplainsAlike m answer
   pub demonstrated : Demonstrates m answer
   pub others : LeavesOthers m
   pub unread_events : LeavesEvents m answer
+  pub unread_second : LeavesSecond m
   pub fits : FitsCommand m answer
   pub counts : CountsRise m

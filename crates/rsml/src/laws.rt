@@ -1,5 +1,7 @@
 ghost use Rattle.rsml.specs.Laws.{OutputIsOne};
 
+use comparing::what_same_answers_is_one;
+use proving::what_prove_answers_is_one;
 use rsml_lexer::{at_most_one_first_fault, at_most_one_token_list, never_both};
 use rsml_meaning::{
     a_first_fault_is_of_a_line, a_report_is_one_text, event_files_have_one_run,
@@ -23,4 +25,6 @@ pub fn an_output_is_one()
     event_files_have_one_run();
     last_lines_tell_the_verdict();
     column_laws();
+    what_prove_answers_is_one();
+    what_same_answers_is_one();
 }

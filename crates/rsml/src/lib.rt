@@ -16,4 +16,5 @@ pub use following::EventAction;
 pub use judging::{Judgement, judge};
 pub use laws::an_output_is_one;
 pub use memory::memory_lines;
+pub use pairing::PairAction;
 pub use running::run;

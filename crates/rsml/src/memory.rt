@@ -5,6 +5,7 @@ use crate::command::{Action, Command, command_in};
 use answering::GREATEST_FILE;
 use explaining::memory_notes;
 use following::EventAction;
+use pairing::PairAction;
 use rsml_io::{Files, read_all};
 use rsml_syntax::NoMemory;
 use source_notes::Notes;
@@ -26,12 +27,23 @@ fn explained_file(command: Command<'_>) -> Option<&str> {
             file,
             ..
         } => Some(file),
+        Command::Pair {
+            action: PairAction::ExplainProve,
+            file,
+            ..
+        } => Some(file),
+        Command::Pair {
+            action: PairAction::ExplainSame,
+            file,
+            ..
+        } => Some(file),
         _ => None,
     }
 }
 
-/// What a person is told where a command ended with out of memory: of `explain`, `explain cover` and `explain gaps`, comment lines on the
-/// first group for which memory is refused; of another command, or where that is not known, nothing. It takes the time of `check` once more.
+/// What a person is told where a command ended with out of memory: of `explain`, `explain cover`, `explain gaps`, `explain prove` and `explain
+/// same`, comment lines on the first group of the first specification for which memory is refused; of another command, or where that is not
+/// known, nothing. It takes the time of `check` once more.
 pub fn memory_lines<F: Files>(
     alloc: Global,
     words: &[String],

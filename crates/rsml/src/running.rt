@@ -8,8 +8,11 @@ use crate::acting::come_to;
 use crate::command::{Command, command_in};
 use crate::version::VERSION;
 use answering::{Status, answer, finish};
+use comparing::same_texts_behave_alike;
 use demonstrating::demo;
 use following::follow;
+use pairing::pair;
+use proving::done_is_proved;
 use rsml_io::{Files, Sink};
 use std::alloc::Global;
 
@@ -46,6 +49,11 @@ fn obey<F: Files, K: Sink>(
             file,
             events,
         } => follow(alloc, action, file, events, files, sink),
+        Command::Pair {
+            action,
+            file,
+            other,
+        } => pair(alloc, action, file, other, files, sink),
         Command::Demo { units } => demo(alloc, units, sink),
         Command::Version => finish(sink, VERSION, Status::Done),
     }
@@ -76,6 +84,8 @@ pub fn run<F: Files, K: Sink>(
     }) result }
     ensures contents { (file : List ℕ) → F.contents files.new file ≡ F.contents files.old file }
 {
+    done_is_proved();
+    same_texts_behave_alike();
     match command_in(words) {
         Some(command) => obey(alloc, command, files, sink),
         None => finish(sink, b"usage: rsml COMMAND WORDS\n", Status::Usage),

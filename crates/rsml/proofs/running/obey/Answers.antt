@@ -2,7 +2,7 @@ use Rattle.std.proofs.Common.{ap, subst}
 use Rattle.rsml.specs.Asked.{asked}
 use Rattle.rsml.specs.Commands.{AreCounted, specification_file}
 use Rattle.rsml.specs.declared.command.Command.{Command as Given}
-use Rattle.rsml.proofs.ActionLemmas.{action_written, names_specification, names_events}
+use Rattle.rsml.proofs.ActionLemmas.{action_written, names_specification, names_events, names_other}
 use Rattle.rsml.proofs.running.obey.Goals as goal
 
 pub come_to-requires : goal.come_to-requires
@@ -16,6 +16,9 @@ returns-in-Act-clause-obeyed g c = rw c.in-Act.is (c.come_to.result, c.come_to.e
 
 pub returns-in-Follow-clause-obeyed : goal.returns-in-Follow-clause-obeyed
 returns-in-Follow-clause-obeyed g c = rw c.in-Follow.is c.follow.ensures.followed
+
+pub returns-in-Pair-clause-obeyed : goal.returns-in-Pair-clause-obeyed
+returns-in-Pair-clause-obeyed g c = rw c.in-Pair.is c.pair.ensures.paired
 
 pub returns-in-Demo-clause-obeyed : goal.returns-in-Demo-clause-obeyed
 returns-in-Demo-clause-obeyed g c = rw c.in-Demo.is c.demo.ensures.demonstrated
@@ -39,3 +42,9 @@ returns-in-Follow-clause-others g c = λ name n.
     c.follow.ensures.others name
     (λ e. n (names_specification (asked c.args.command) _ name (ap (λ (k : Given). specification_file (asked k)) c.in-Follow.is) e))
     (λ e. n (names_events (asked c.args.command) _ _ _ name (ap asked c.in-Follow.is) e))
+
+pub returns-in-Pair-clause-others : goal.returns-in-Pair-clause-others
+returns-in-Pair-clause-others g c = λ name n.
+    c.pair.ensures.others name
+    (λ e. n (names_specification (asked c.args.command) _ name (ap (λ (k : Given). specification_file (asked k)) c.in-Pair.is) e))
+    (λ e. n (names_other (asked c.args.command) _ _ _ name (ap asked c.in-Pair.is) e))

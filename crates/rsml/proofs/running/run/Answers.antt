@@ -7,7 +7,7 @@ use Rattle.rsml.proofs.running.run.Goals as goal
 
 pub returns-in-Some-clause-runs : goal.returns-in-Some-clause-runs
 returns-in-Some-clause-runs g c =
-    runs_command _ _ (asked c.in-Some.command) (search rules) c.obey.ensures.obeyed
+    runs_command c.done_is_proved.ensures c.same_texts_behave_alike.ensures _ _ (asked c.in-Some.command) (search rules) c.obey.ensures.obeyed
     (record { others = c.obey.ensures.others; counts = record { reads = c.obey.ensures.count; writes = c.obey.ensures.sink_count } })
 
 pub returns-in-None-clause-runs : goal.returns-in-None-clause-runs

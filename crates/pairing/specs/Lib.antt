@@ -1,0 +1,3 @@
+pub mod Kept
+pub mod Outputs
+pub mod Steps
