@@ -14,7 +14,8 @@ its lines in a row:
     <!-- examples/guide/10_fault.trace = simulate examples/guide/10_doors.rsml examples/guide/10_fault.events -->
 
 NAME.report has what `check NAME.rsml` writes, NAME.explained what `explain NAME.rsml` does, NAME.trace what
-`simulate NAME.rsml NAME.events` does, NAME.counts what `cover` does with them, and NAME.gaps what `gaps NAME.rsml 5` does, where the comment tells no other command. Those of examples/guide/ are compared also where no page shows them. Every example of these pages has to have such a
+`simulate NAME.rsml NAME.events` does, NAME.counts what `cover` does with them, NAME.gaps what `gaps NAME.rsml 5` does, and NAME.proof
+what `prove NAME.rsml NAME.claims` does, where the comment tells no other command; NAME.same has always one there. Those of examples/guide/ are compared also where no page shows them. Every example of these pages has to have such a
 comment: a block of the language `rsml` without one is told. Comparing with the program, each file of examples/guide/ has to be one that
 a page or an answer uses. The last line is `N texts right, M wrong`."""
 
@@ -26,6 +27,7 @@ from pathlib import Path
 TOP = Path(__file__).resolve().parent.parent
 PAGES = "docs/guide.md", "docs/language.md", "README.md"
 GUIDE = "examples/guide"
+ANSWERS = ".report", ".explained", ".trace", ".counts", ".gaps", ".proof", ".same"
 BLOCK = re.compile(r"(?m)^(?:<!-- (part of )?(examples/\S+)(?: = ([^>]*))? -->\n\n?)?```(\w*)\n(.*?)^```$", re.S)
 
 
@@ -86,8 +88,8 @@ def write_pages():
 
 def command_of(name):
     stem, _, kind = name.rpartition(".")
-    words = {"report": ["check"], "explained": ["explain"], "trace": ["simulate"], "counts": ["cover"], "gaps": ["gaps"]}[kind] + [f"{stem}.rsml"]
-    return words + {"trace": [f"{stem}.events"], "counts": [f"{stem}.events"], "gaps": ["5"]}.get(kind, [])
+    words = {"report": ["check"], "explained": ["explain"], "trace": ["simulate"], "counts": ["cover"], "gaps": ["gaps"], "proof": ["prove"]}[kind] + [f"{stem}.rsml"]
+    return words + {"trace": [f"{stem}.events"], "counts": [f"{stem}.events"], "gaps": ["5"], "proof": [f"{stem}.claims"]}.get(kind, [])
 
 
 def answers():
@@ -95,7 +97,7 @@ def answers():
     shown = [(name, command) for page in PAGES for _, _, name, command, _, _ in blocks(page) if name]
     told = {name: command.split() for name, command in shown if command}
     names = [str(it.relative_to(TOP)) for it in sorted((TOP / GUIDE).rglob("*"))] + [name for name, _ in shown]
-    return {name: told.get(name) or command_of(name) for name in names if name.endswith((".report", ".explained", ".trace", ".counts", ".gaps"))}
+    return {name: told.get(name) or command_of(name) for name in names if name.endswith(ANSWERS)}
 
 
 def written(program, command):

@@ -1,11 +1,13 @@
 #!/bin/sh
 # Tells where what PROGRAM writes of the whole specifications among the examples differs from what is stored beside them.
 #
-#     tools/same_texts.sh PROGRAM         compares the reports, the explanations and the traces of each folder of examples/
-#     tools/same_texts.sh PROGRAM check   compares all but the traces
+#     tools/same_texts.sh PROGRAM         compares the reports, the explanations, the traces and the proofs of each folder of examples/
+#     tools/same_texts.sh PROGRAM check   compares all but the traces and the proofs
 #
 # In a folder NAME with a file NAME.rsml these are NAME.report and mistaken.report, of NAME.rsml and mistaken.rsml, NAME.explained and
-# mistaken.explained, what `explain` writes of the two, and NAME.trace, of NAME.rsml with NAME.events. The last line is `N texts same, M different`.
+# mistaken.explained, what `explain` writes of the two, and NAME.trace, of NAME.rsml with NAME.events. Where there are claims, NAME.proof is
+# what `prove` writes of NAME.rsml with NAME.claims, and where there is a file unseen.rsml, unseen.proof what `explain prove` writes of it
+# with them. The last line is `N texts same, M different`.
 set -u
 case ${1:?"PROGRAM is missing"} in
     /*) program=$1 ;;
@@ -42,6 +44,12 @@ for folder in */; do
     compare "$name/mistaken.report" 1 check "$name/mistaken.rsml"
     compare "$name/$name.explained" 0 explain "$name/$name.rsml"
     compare "$name/mistaken.explained" 1 explain "$name/mistaken.rsml"
+    if [ -f "$name/$name.claims" ] && [ "$commands" != check ]; then
+        compare "$name/$name.proof" 0 prove "$name/$name.rsml" "$name/$name.claims"
+    fi
+    if [ -f "$name/unseen.rsml" ] && [ "$commands" != check ]; then
+        compare "$name/unseen.proof" 1 explain prove "$name/unseen.rsml" "$name/$name.claims"
+    fi
     [ "$commands" = check ] || compare "$name/$name.trace" 0 simulate "$name/$name.rsml" "$name/$name.events"
 done
 printf '%s texts same, %s different\n' $same $different
