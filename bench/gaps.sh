@@ -9,12 +9,11 @@ set -eu
 cd "$(dirname "$0")/.."
 turns=${1:-3}
 shift $(($# > 0 ? 1 : 0))
-limit=${LIMIT:-60}
-most=$((${MEMORY:-8} * 1000000))
 work=$(mktemp -d)
 trap 'rm -rf "$work"' EXIT
 source bench/stages.sh
 source bench/texts.sh
+source bench/limited.sh
 
 # The names of the specifications, and how each is written.
 names=()
@@ -33,24 +32,6 @@ take_program
 with_peer=no
 ! command -v z3 > "$work/found" || with_peer=yes
 failed=0
-
-# limited COMMAND..: the least milliseconds of `turns` runs within the limits, or what stopped it. What it writes goes to $work/written.
-limited() {
-  local status=0 start least=
-  for _ in $(seq "$turns"); do
-    start=$(date +%s%N)
-    (ulimit -v "$most"; exec timeout "$limit" /usr/bin/time -q -o "$work/memory" -f %M "$@") > "$work/written" 2> "$work/error" || status=$?
-    case $status in
-      0 | 1) start=$(($(date +%s%N) - start)) ;;
-      124) echo time; return ;;
-      *) echo memory; return ;;
-    esac
-    [ -n "$least" ] && [ "$start" -ge "$least" ] || least=$start
-  done
-  awk -v t="$least" 'BEGIN { printf "%.1f", t / 1e6 }'
-}
-
-ratio() { awk -v one="$1" -v other="$2" 'BEGIN { if (one + 0 > 0 && other + 0 > 0) printf "%.2f", one / other; else printf "-" }'; }
 
 printf '%-24s %3s %6s %7s %10s %5s %10s %7s %10s %7s\n' specification N groups columns gaps MB check ratio z3 ratio
 for name in "${names[@]}"; do
