@@ -72,7 +72,10 @@ def examples():
         ("lamp.rsml", "Lamp", "lamp.events"),
     ])
     group("Whole specifications", [(f"{it}/{it}.rsml", title(it), f"{it}/{it}.events") for it in whole])
-    group("The same, each with one mistake", [(f"{it}/mistaken.rsml", f"{title(it)}, mistaken", f"{it}/{it}.events") for it in whole])
+    mistaken = [(f"{it}/mistaken.rsml", f"{title(it)}, mistaken", f"{it}/{it}.events") for it in whole]
+    unseen = [it for it in whole if os.path.exists(os.path.join(EXAMPLES, it, "unseen.rsml"))]
+    mistaken += [(f"{it}/unseen.rsml", f"{title(it)}, with a mistake that check cannot see", f"{it}/{it}.events") for it in unseen]
+    group("The same, each with one mistake", mistaken)
     group("Many aircraft", [
         ("tcas.rsml", "Advice on thirty aircraft", "tcas.events"),
         ("intruders.rsml", "Warnings of thirty aircraft", ""),
