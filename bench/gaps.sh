@@ -9,16 +9,8 @@ set -eu
 cd "$(dirname "$0")/.."
 turns=${1:-3}
 shift $(($# > 0 ? 1 : 0))
-work=$(mktemp -d)
-trap 'rm -rf "$work"' EXIT
-source bench/stages.sh
-source bench/texts.sh
 source bench/limited.sh
 
-# The names of the specifications, and how each is written.
-names=()
-declare -A written_by
-text() { names+=("$1"); written_by[$1]="${*:2}"; }
 for example in examples/*/mistaken.rsml; do
   text "$(basename "$(dirname "$example")")" cat "$example"
 done
@@ -29,8 +21,6 @@ text pairs_4_mistaken pairs 4 mistaken
 [ $# -eq 0 ] || names=("$@")
 
 take_program
-with_peer=no
-! command -v z3 > "$work/found" || with_peer=yes
 failed=0
 
 printf '%-24s %3s %6s %7s %10s %5s %10s %7s %10s %7s\n' specification N groups columns gaps MB check ratio z3 ratio

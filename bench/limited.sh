@@ -1,5 +1,17 @@
 # shellcheck shell=bash
-# Runs within limits, for the scripts that measure what may take long: LIMIT (60) seconds, and MEMORY (8) GB.
+# What the scripts share that measure named texts within limits, beside z3 where it is there: LIMIT (60) seconds, and MEMORY (8) GB.
+work=$(mktemp -d)
+trap 'rm -rf "$work"' EXIT
+source bench/stages.sh
+source bench/texts.sh
+with_peer=no
+! command -v z3 > "$work/found" || with_peer=yes
+
+# The names of the specifications, and how each is written.
+names=()
+declare -A written_by
+text() { names+=("$1"); written_by[$1]="${*:2}"; }
+
 limit=${LIMIT:-60}
 most=$((${MEMORY:-8} * 1000000))
 

@@ -9,17 +9,9 @@ set -eu
 cd "$(dirname "$0")/.."
 turns=${1:-3}
 shift $(($# > 0 ? 1 : 0))
-work=$(mktemp -d)
-trap 'rm -rf "$work"' EXIT
-source bench/stages.sh
-source bench/texts.sh
 source bench/limited.sh
 source bench/claims.sh
 
-# The names of the specifications, and how each is written.
-names=()
-declare -A written_by
-text() { names+=("$1"); written_by[$1]="${*:2}"; }
 declare -A aim_of
 for example in autopilot elevator_door reactor_trip; do text "$example" of_example "$example"; aim_of[$example]=50; done
 text pair pair; aim_of[pair]=50
@@ -30,8 +22,6 @@ text line_1024 events_in_line 1024; aim_of[line_1024]=5000
 [ $# -eq 0 ] || names=("$@")
 
 take_program
-with_peer=no
-! command -v z3 > "$work/found" || with_peer=yes
 failed=0
 printf '%-16s %-8s %10s %5s %10s %7s %8s\n' specification answer prove MB z3 ratio aim
 for name in "${names[@]}"; do

@@ -9,16 +9,8 @@ set -eu
 cd "$(dirname "$0")/.."
 turns=${1:-3}
 shift $(($# > 0 ? 1 : 0))
-work=$(mktemp -d)
-trap 'rm -rf "$work"' EXIT
-source bench/stages.sh
-source bench/texts.sh
 source bench/limited.sh
 
-# The names of the specifications, and how each is written.
-names=()
-declare -A written_by
-text() { names+=("$1"); written_by[$1]="${*:2}"; }
 for example in examples/*/; do
   example=$(basename "$example")
   [ ! -f "examples/$example/$example.rsml" ] || text "$example" cat "examples/$example/$example.rsml"
@@ -33,8 +25,6 @@ text pairs_4 pairs 4
 [ $# -eq 0 ] || names=("$@")
 
 take_program
-with_peer=no
-! command -v z3 > "$work/found" || with_peer=yes
 failed=0
 printf '%-24s %-9s %-7s %10s %5s %10s %7s %10s %7s\n' specification beside answer same MB check ratio z3 ratio
 for name in "${names[@]}"; do

@@ -92,6 +92,18 @@ def cases_of(path):
     return head, cases
 
 
+def answers_on_texts(folder, command):
+    """Each answer of a folder of cases to a command on two texts, plain or explained, that finds no fault: its place, the texts, and what is
+    stored without comment lines, with the status."""
+    for path in sorted(glob.glob(f"{folder}/*.cases")):
+        for case in cases_of(path)[1]:
+            words = case.words[1:] if case.words[0] == "explain" else case.words
+            if words[0] == command and len(words) == 3 and case.status < 2:
+                texts = [text_of(case.files[word], os.path.dirname(path)).decode() for word in words[1:]]
+                told = "".join(line for line in case.answer.decode().splitlines(True) if not line.startswith("# "))
+                yield case.place, texts, (told, case.status)
+
+
 def run(program, case):
     """Returns the status with which the program ends on a case, and what it writes."""
     with tempfile.TemporaryDirectory() as folder:

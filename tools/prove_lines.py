@@ -6,8 +6,8 @@
     tools/prove_lines.py --random COUNT PROGRAM  compares COUNT random specifications and claims with what `PROGRAM prove SPEC CLAIMS`
                                                  writes, and asks proved claims in all worlds of random runs
 
-It reads specifications as `report_lines.py` does. Texts that break a rule, and those that have too many worlds, are left out. The last
-line of a comparison is `N answers right, M wrong`."""
+It reads specifications as `report_lines.py` does. Texts that break a rule are left out. The last line of a comparison is `N answers right,
+M wrong`."""
 
 import itertools
 import random
@@ -17,7 +17,7 @@ import sys
 import tempfile
 from pathlib import Path
 
-from cases import cases_of, text_of
+from cases import answers_on_texts
 from random_certified import random_certified
 from random_events import random_events
 from report_lines import TESTS, Reading, report, world_lines
@@ -25,9 +25,6 @@ from state_reading import TOKEN, path_text
 from step_reading import latched, micro_steps, raised_by
 from text_reading import instance_text, label
 from trace_lines import Fault, compare, messages
-
-TOO_MANY_WORLDS = ("prove/examples", "prove/wide")
-
 
 def claims_of(it, text):
     """Each claim with its name, read by the names of a specification."""
@@ -99,16 +96,9 @@ def prove(text, claims_text):
 
 
 def stored():
-    """Each answer of the case files, without comment lines, with its place and what is worked out."""
-    for file in sorted((TESTS / "prove").glob("*.cases")):
-        if f"prove/{file.stem}" in TOO_MANY_WORLDS:
-            continue
-        for case in cases_of(str(file))[1]:
-            words = case.words[1:] if case.words[0] == "explain" else case.words
-            if words[0] == "prove" and len(words) == 3 and case.status < 2:
-                texts = [text_of(case.files[word], str(file.parent)).decode() for word in words[1:]]
-                told = "".join(line for line in case.answer.decode().splitlines(True) if not line.startswith("# "))
-                yield case.place, prove(*texts), (told, case.status)
+    """Each answer of the case files with its place and what is worked out."""
+    for place, texts, told in answers_on_texts(TESTS / "prove", "prove"):
+        yield place, prove(*texts), told
 
 
 def random_claims(it, maker):

@@ -6,8 +6,8 @@
     tools/same_lines.py --random COUNT PROGRAM  compares COUNT random specifications, each beside itself with other guards, with what
                                                 `PROGRAM same ONE OTHER` writes, and where it writes `same` the traces of random events
 
-It reads specifications as `report_lines.py` does, and compares frames as lists of tokens. Texts that break a rule, and those that have too
-many worlds, are left out. The last line of a comparison is `N answers right, M wrong`."""
+It reads specifications as `report_lines.py` does, and compares frames as lists of tokens. Texts that break a rule are left out. The last line
+of a comparison is `N answers right, M wrong`."""
 
 import random
 import re
@@ -16,16 +16,13 @@ import sys
 import tempfile
 from pathlib import Path
 
-from cases import cases_of, text_of
+from cases import answers_on_texts
 from random_certified import random_certified
 from random_events import random_events
 from report_lines import TESTS, Reading, report, world_lines
 from state_reading import TOKEN
 from text_reading import instance_text, label
 from trace_lines import compare, simulation
-
-TOO_MANY_WORLDS = ("same/examples", "same/wide")
-
 
 def past(tokens, at):
     """The place behind the braces that open at a place."""
@@ -89,16 +86,9 @@ def same(text, other_text):
 
 
 def stored():
-    """Each answer of the case files, without comment lines, with its place and what is worked out."""
-    for file in sorted((TESTS / "same").glob("*.cases")):
-        if f"same/{file.stem}" in TOO_MANY_WORLDS:
-            continue
-        for case in cases_of(str(file))[1]:
-            words = case.words[1:] if case.words[0] == "explain" else case.words
-            if words[0] == "same" and len(words) == 3 and case.status < 2:
-                texts = [text_of(case.files[word], str(file.parent)).decode() for word in words[1:]]
-                told = "".join(line for line in case.answer.decode().splitlines(True) if not line.startswith("# "))
-                yield case.place, same(*texts), (told, case.status)
+    """Each answer of the case files with its place and what is worked out."""
+    for place, texts, told in answers_on_texts(TESTS / "same", "same"):
+        yield place, same(*texts), told
 
 
 def cells_turned(text, maker):
